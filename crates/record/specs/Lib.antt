@@ -1,0 +1,12 @@
+pub mod Limits
+pub mod Fault
+pub mod Numbers
+pub mod Nodes
+pub mod Record
+pub mod Run
+pub mod Index
+pub mod Text
+pub mod Parse
+pub mod Fill
+pub mod Examples
+pub mod Laws
