@@ -35,4 +35,4 @@ run-at seen p = spelled seen p p
 pub record Unfolds : Type 0 where
   pub at-none : (seen : ℕ → Option Node) → Lower seen → (p : ℕ) → seen p ≡ None → run-at seen p ≡ nil
   pub at-some : (seen : ℕ → Option Node) → Lower seen → (p : ℕ) (n : Node) → seen p ≡ Some n
-    → run-at seen p ≡ node (n .kind) (run-at seen (n .inside)) (run-at seen (n .after))
+      → run-at seen p ≡ node (n .kind) (run-at seen (n .inside)) (run-at seen (n .after))

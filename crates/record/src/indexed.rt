@@ -14,6 +14,7 @@ pub struct Indexed<'a> {
 
 pub impl<'a> Runs for Indexed<'a> as IndexedRuns {
     ghost highest = { λ s. lowered (now (s .list)) (s .top) };
+
     ghost seen = { λ s. shown (now (s .list)) (s .top) };
 
     fn top(&self) -> usize {

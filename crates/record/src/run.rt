@@ -16,6 +16,7 @@ pub struct Node {
 // `highest` is the top place, and `seen` what each place shows.
 pub trait Runs {
     ghost highest: { Self → ℕ };
+
     ghost seen: { Self → ℕ → Maybe Seen };
 
     // The place whose run is the whole. Every implementation owes here what holds of its places.

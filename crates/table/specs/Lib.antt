@@ -1,0 +1,5 @@
+pub mod Fault
+pub mod Class
+pub mod Sets
+pub mod Table
+pub mod Reading
