@@ -47,15 +47,13 @@ fn push_flaw(out: &mut String, flaw: Flaw, place: usize) -> fmt::Result {
 }
 
 // Why the bytes are no record, in sentences.
-pub fn explain(
-    heap: Global,
-    name: &str,
-    bytes: &[u8],
-    fault: &Fault,
-) -> Result<String, AnyError> {
+pub fn explain(heap: Global, name: &str, bytes: &[u8], fault: &Fault) -> Result<String, AnyError> {
     let number = fault.number();
     let place = fault.place;
-    let mut out = format!(heap, "{name} is refused by number {number} (layer record, place {place}): ")?;
+    let mut out = format!(
+        heap,
+        "{name} is refused by number {number} (layer record, place {place}): "
+    )?;
     match fault.cause {
         Cause::TooLong => write!(
             out,
@@ -65,7 +63,10 @@ pub fn explain(
             push_flaw(&mut out, flaw, place)?;
             push_bytes(&mut out, bytes, place)?;
         }
-        Cause::ShortList => write!(out, "the index list is too short: it needs {place} entries.")?,
+        Cause::ShortList => write!(
+            out,
+            "the index list is too short: it needs {place} entries."
+        )?,
         Cause::NoNode => out.write_str("no node starts at this offset.")?,
     }
     out.write_char('\n')?;

@@ -3,7 +3,28 @@ use std::test::*;
 
 #[test]
 fn a_record_is_drawn(rt: LibcRuntime) -> Result<(), Fail> {
-    let bytes = [16, 0, 0, 0, 1, 0, 2, 0, 0x41, 7, 6, 0, 0, 0, 2, 0, 2, 0, 0x31, 0xff];
+    let bytes = [
+        16,
+        0,
+        0,
+        0,
+        1,
+        0,
+        2,
+        0,
+        0x41,
+        7,
+        6,
+        0,
+        0,
+        0,
+        2,
+        0,
+        2,
+        0,
+        0x31,
+        0xff,
+    ];
     let shown = render(rt.alloc(), "r", &bytes)?;
     check(shown.is_record)?;
     check_eq(
@@ -16,6 +37,11 @@ fn a_record_is_drawn(rt: LibcRuntime) -> Result<(), Fail> {
 fn a_stray_byte_is_explained(rt: LibcRuntime) -> Result<(), Fail> {
     let shown = render(rt.alloc(), "r", &[4, 0, 0, 0, 1, 0, 0, 0, 9])?;
     check(!shown.is_record)?;
-    check(shown.text.as_str().starts_with("r is refused by number 2 (layer record, place 8): "))?;
+    check(
+        shown
+            .text
+            .as_str()
+            .starts_with("r is refused by number 2 (layer record, place 8): "),
+    )?;
     check(shown.text.as_str().ends_with("The bytes there are 09.\n"))
 }

@@ -82,7 +82,10 @@ pub fn draw(
         levels = open.len().max(levels);
     }
     let size = bytes.len();
-    let head = format!(heap, "{name} is a record: {size} bytes, {top} nodes, {levels} levels.\n")?;
+    let head = format!(
+        heap,
+        "{name} is a record: {size} bytes, {top} nodes, {levels} levels.\n"
+    )?;
     let mut all = head;
     all.push_str(tree.as_str())?;
     Ok(all)
