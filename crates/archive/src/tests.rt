@@ -1,3 +1,4 @@
+use crate::example::tell;
 use crate::show::render;
 use std::test::*;
 
@@ -44,4 +45,11 @@ fn a_stray_byte_is_explained(rt: LibcRuntime) -> Result<(), Fail> {
             .starts_with("r is refused by number 2 (layer record, place 8): "),
     )?;
     check(shown.text.as_str().ends_with("The bytes there are 09.\n"))
+}
+
+#[test]
+fn the_example_points_once(rt: LibcRuntime) -> Result<(), Fail> {
+    let told = tell(rt.alloc())?;
+    check(told.as_str().contains("Mark 0 of pattern 0 in record 0: (0, 10).\n"))?;
+    check(told.as_str().contains("Mark 1 of pattern 0 in record 0: no node.\n"))
 }

@@ -9,7 +9,7 @@ use Rattle.std.specs.declared.option.Option.the-variants.{Some}
 use Rattle.std.specs.shelf.Maps.{nth}
 use Rattle.record.specs.declared.index.Entry.{Entry}
 use Rattle.record.specs.Nodes.{Nodes, nil, node, bytes-of, count}
-use Rattle.record.specs.Run.{Run, run-at}
+use Rattle.record.specs.Run.{Run, run-at, Spans, empty, full}
 use Rattle.record.specs.Index.{erase, span, place, entries, seen, Side, inside, after, named}
 use Rattle.record.proofs.Injective.{node-length}
 use Rattle.record.proofs.Places.{run-some}
@@ -68,6 +68,18 @@ spells list (node k t i a) base o s =
     ap (run-at (seen list)) e
     ∙ (run-some (seen list) (seen-lower list) (suc p) (x .node) (seen-shown list p x (s .2) (omega arith) (omega arith))
     ∙ ap₂ (Run.node k) (spells list i (base + count a) (o + 8 + length t) (s .1)) (spells list a base (o + span t i) (s .0)))
+
+-- the entries of a run span the places that it takes
+pub spans : (list : List Entry) (n : Nodes) (base o : ℕ) → Stands list base o n → Spans (seen list) base (count n) (place base n)
+spans list nil base o s = empty
+spans list (node k t i a) base o s =
+    let p : ℕ = base + count a + count i in
+    let x : Entry = own base o k t i a in
+    let e : base + (1 + count i + count a) ≡ suc p = omega arith in
+    let ci = place-cases (base + count a) i in
+    let ca = place-cases base a in
+    full (x .node) (omega arith) refl (ap (seen list) e ∙ seen-shown list p x (s .2) (omega arith) (omega arith))
+    (spans list i (base + count a) (o + 8 + length t) (s .1)) (spans list a base (o + span t i) (s .0))
 
 -- entry k of a list that has these entries is e
 abbrev pub Has : ℕ → ℕ → Nodes → ℕ → Entry → Type 0

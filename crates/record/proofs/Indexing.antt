@@ -5,7 +5,7 @@ use mathlib.Core.Logic.{inl, inr}
 use Prim.Native.Nat.{ℕ, suc, _+_, _<_, _≤_}
 use native.Mathlib.Omega.{arith}
 use native.Mathlib.Nat.{zero-add}
-use lib.ListN.{length, length-append}
+use lib.ListN.{length, take, length-append}
 use Rattle.std.specs.declared.option.Option.the-variants.{Some}
 use Rattle.std.specs.shelf.Maps.{nth}
 use Rattle.std.proofs.shelf.Lists.{append-assoc, append-nil}
@@ -13,12 +13,12 @@ use Rattle.record.specs.declared.run.Node.{Node}
 use Rattle.record.specs.declared.index.Entry.{Entry}
 use Rattle.record.specs.Numbers.{le, between}
 use Rattle.record.specs.Nodes.{Nodes, nil, node, bytes-of, count}
-use Rattle.record.specs.Run.{run-at}
-use Rattle.record.specs.Index.{span, place, entries, seen, Side, named, Tells, Index-holds}
+use Rattle.record.specs.Run.{run-at, Spans}
+use Rattle.record.specs.Index.{span, place, entries, seen, lowered, shown as shown-up-to, Indexed-as, Side, named, Tells, Index-holds}
 use Rattle.record.proofs.Numbers.{length-le}
 use Rattle.record.proofs.Slices.{Cut, cut, between-all}
 use Rattle.record.proofs.Seen.{seen-shown, shown, seen-lower}
-use Rattle.record.proofs.Entries.{own, entries-length, Stands, stands, place-cases, spells, Has, has, lies, falls, once}
+use Rattle.record.proofs.Entries.{own, entries-length, Stands, stands, place-cases, spells, spans, Has, has, lies, falls, once}
 
 -- what stands in a node's bytes before its inside
 abbrev front : ℕ → List ℕ → Nodes → List ℕ
@@ -102,6 +102,19 @@ module _ (n : Nodes) where
       let w = once n 0 0 (x .k) (y .k) (x .entry) (y .entry) s t (at (x .k) (x .entry) (x .at)) (at (y .k) (y .entry) (y .at)) (omega arith) (u ∙ (r ∙ sym v)) in
       (x .place-is ∙ (ap suc (w .0) ∙ sym (y .place-is)), w .1)
 
+top-place : (n : Nodes) → place 0 n ≡ count n
+top-place nil = refl
+top-place (node k t i a) = zero-add (count (node k t i a))
+
+spanned : (bytes : List ℕ) (list : List Entry) (n : ℕ) → Indexed-as bytes list n → Spans (shown-up-to list n) 0 (lowered list n) (lowered list n)
+spanned bytes list n x =
+    let m = x .is .number in
+    let e : lowered list n ≡ n = omega (arith, x .count-is, x .room) in
+    let ns = x .is .nodes in
+    let z : Spans (seen (entries 0 0 ns)) 0 (count ns) (place 0 ns) = spans (entries 0 0 ns) ns 0 0 (stand ns) in
+    let y : Spans (seen (entries 0 0 ns)) 0 n n = subst (λ k. Spans (seen (entries 0 0 ns)) 0 k k) (sym (x .count-is)) (subst (Spans (seen (entries 0 0 ns)) 0 (count ns)) (top-place ns) z) in
+    subst (λ k. Spans (seen (take k list)) 0 k k) (sym e) (subst (λ xs. Spans (seen xs) 0 n n) (sym (x .filled)) y)
+
 pub index-holds : Index-holds
 index-holds =
     record {
@@ -114,4 +127,5 @@ index-holds =
         falls = λ j k d e h g l. falls n 0 0 j k d e (at n j d h) (at n k e g) l;
         once = named-once n;
       };
+      spans = spanned;
     }

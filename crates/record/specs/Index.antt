@@ -19,7 +19,7 @@ use Rattle.record.specs.Fault.{short-list}
 use Rattle.record.specs.Numbers.{between}
 use Rattle.record.specs.Nodes.{Nodes, nil, node, bytes-of, count}
 use Rattle.record.specs.Record.{IsRecord, Refused, end-at, Due}
-use Rattle.record.specs.Run.{Run, Lower, run-at}
+use Rattle.record.specs.Run.{Run, Lower, run-at, Spans}
 
 -- the run of the kinds alone
 abbrev pub erase : Nodes → Run
@@ -106,6 +106,8 @@ pub record Indexed (n : Nodes) (list : List Entry) : Type 0 where
 pub record Index-holds : Type 0 where
   pub lower : (list : List Entry) → Lower (seen list)
   pub indexed : (n : Nodes) → Indexed n (entries 0 0 n)
+  -- a filled index spans its places from the top down
+  pub spans : (bytes : List ℕ) (list : List Entry) (n : ℕ) → Indexed-as bytes list n → Spans (shown list n) 0 (lowered list n) (lowered list n)
 
 -- the list has an entry for a node at this offset, with so many nodes before it
 pub record Listed (bytes : List ℕ) (list : List Entry) (o before : ℕ) : Type 0 where

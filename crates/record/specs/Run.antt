@@ -1,6 +1,6 @@
 -- Runs of nodes, and the run that begins at a place of a table.
 use mathlib.Core.Path.{_≡_}
-use Prim.Native.Nat.{ℕ, zero, suc, _<_, _≤_}
+use Prim.Native.Nat.{ℕ, zero, suc, _+_, _<_, _≤_}
 use Rattle.std.specs.declared.option.Option.{Option}
 use Rattle.std.specs.declared.option.Option.the-variants.{Some, None}
 use Rattle.record.specs.declared.run.Node.{Node}
@@ -36,3 +36,8 @@ pub record Unfolds : Type 0 where
   pub at-none : (seen : ℕ → Option Node) → Lower seen → (p : ℕ) → seen p ≡ None → run-at seen p ≡ nil
   pub at-some : (seen : ℕ → Option Node) → Lower seen → (p : ℕ) (n : Node) → seen p ≡ Some n
       → run-at seen p ≡ node (n .kind) (run-at seen (n .inside)) (run-at seen (n .after))
+
+-- the run at place p has its nodes at the s places above b, each named once: a node at the highest, its inside below it, and what follows below that
+pub data Spans (seen : ℕ → Option Node) : ℕ → ℕ → ℕ → Type 0 where
+  empty : {b : ℕ} → Spans seen b 0 0
+  full : {b x y s p : ℕ} (n : Node) → s ≡ suc (x + y) → p ≡ b + s → seen p ≡ Some n → Spans seen (b + x) y (n .inside) → Spans seen b x (n .after) → Spans seen b s p

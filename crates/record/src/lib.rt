@@ -7,6 +7,4 @@ pub mod laws;
 pub mod limits;
 mod parse;
 pub mod run;
-#[cfg(test)]
-mod tests;
 pub mod text;

@@ -68,3 +68,7 @@ Counts kinds T w zero = Whole kinds T w → ⊥
 Counts kinds T w (suc zero) = Single kinds T w
 Counts kinds T w (suc (suc zero)) = Two kinds T w
 Counts kinds T w (suc (suc (suc n))) = ⊥
+
+-- some run fits the form F and has two readings under the pattern P that differ
+abbrev pub Twofold : {C : Type 0} → (C → ℕ → Bool) → Tab C → Tab C → Type 0
+Twofold kinds F P = (w : Run) × (Fits kinds F w) × (Two kinds P w)

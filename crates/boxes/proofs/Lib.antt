@@ -1,0 +1,14 @@
+pub mod Parts
+pub mod Single
+pub mod Lawful
+pub mod Settled
+pub mod Exact
+pub mod Kept
+pub mod Finding
+pub mod Promised
+pub mod Filing
+pub mod Noting
+pub mod Spotting
+pub mod Once
+pub mod Found
+pub mod Admitting

@@ -1,0 +1,11 @@
+pub mod Limits
+pub mod Fault
+pub mod Check
+pub mod Shelf
+pub mod Record
+pub mod Calls
+pub mod Book
+pub mod Listing
+pub mod Stage
+pub mod Locate
+pub mod Promise

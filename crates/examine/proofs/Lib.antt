@@ -1,0 +1,10 @@
+pub mod Rules
+pub mod Complete
+pub mod Spelling
+pub mod Slots
+pub mod Claims
+pub mod Emptying
+pub mod Joining
+pub mod Searching
+pub mod Shown
+pub mod Verdict

@@ -1,0 +1,59 @@
+ghost use mathlib.Core.Path.{_≡_};
+ghost use Rattle.examine.specs.Turns.{pairs, state-on};
+
+// A rule that takes a node: its number and its states.
+#[derive(Clone, Copy)]
+pub struct Arm {
+    pub rule: usize,
+    pub from: u8,
+    pub inside: u8,
+    pub to: u8,
+}
+
+// A form rule and two pattern rules that take a node of this kind.
+#[derive(Clone, Copy)]
+pub struct Trio {
+    pub kind: u16,
+    pub form: Arm,
+    pub first: Arm,
+    pub second: Arm,
+}
+
+// Where a line stands in a node's line: inside the node, or after it.
+#[derive(Clone, Copy)]
+pub enum Side {
+    Inside,
+    After,
+}
+
+// A line to be taken on one side of a node, with every line below `bound` on the other side.
+#[derive(Clone, Copy)]
+pub struct Turn {
+    pub side: Side,
+    pub line: usize,
+    pub bound: usize,
+}
+
+impl Side {
+    // The state of a node rule on this side.
+    pub fn state(self, inside: u8, to: u8) -> u8
+        ensures { λ r. ⌜ r ≡ state-on self inside to ⌝ }
+    {
+        match self {
+            Side::Inside => inside,
+            Side::After => to,
+        }
+    }
+}
+
+impl Turn {
+    // Whether two lines, one inside a node and one after it, are due in this turn.
+    pub fn pairs(self, inside: usize, after: usize) -> bool
+        ensures { λ r. ⌜ r ≡ pairs self inside after ⌝ }
+    {
+        match self.side {
+            Side::Inside => inside == self.line && 0 < after && after < self.bound,
+            Side::After => after == self.line && 0 < inside && inside < self.bound,
+        }
+    }
+}
