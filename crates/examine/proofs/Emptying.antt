@@ -1,5 +1,5 @@
 -- Empty rules to what a line shows.
-use mathlib.Core.Path.{_≡_, refl, sym, ap, _∙_, subst}
+use mathlib.Core.Path.{_≡_, refl, sym, ap, _∙_, subst, subst₂}
 use mathlib.Core.Bool.{Bool, true, false, _&&_, not}
 use mathlib.Core.Logic.{_⊎_, inl, inr}
 use Prim.Native.Nat.{ℕ, _<_}
@@ -119,6 +119,16 @@ module _ {C : Type 0} (G : Setting C) where
         spells = λ lines same here. spells-both (ap (λ (m : Line). m .step) here) (spells-lasts (G .kinds) (G .form) (G .pattern) (line-at (s .lines)) (s .used) (fine .good) lines same (u .0) (u .1) (sh .spells));
         says = λ d. sh .says (skip-rest d);
       }
+
+  -- a step between facts is a step between equal facts
+  pub lead-at : (b r : ℕ) (e : LineStep) {x x′ y y′ : Fact} → x′ ≡ x → y′ ≡ y → Leads (G .pattern) b r x y e → Leads (G .pattern) b r x′ y′ e
+  lead-at b r e d f l = subst₂ (λ x y. Leads (G .pattern) b r x y e) (sym d) (sym f) l
+
+  pub low-at : {x x′ : Fact} → x′ ≡ x → Low G x → Low G x′
+  low-at d l = subst (Low G) (sym d) l
+
+  pub then-at : (s t : State) (b : ℕ) {x x′ y y′ : Fact} → x′ ≡ x → y′ ≡ y → (line-of G s x′ ≡ b → Known G t y′) → line-of G s x ≡ b → Known G t y
+  then-at s t b d f h e = subst (Known G t) f (h (ap (line-of G s) d ∙ e))
 
   -- a rule number has one empty rule
   same-skip : (r : ℕ) {p t from to : ℕ} → Skips (G .pattern) r p t → Skips (G .pattern) r from to → (p ≡ from) × (t ≡ to)

@@ -15,6 +15,9 @@ use Rattle.examine.specs.declared.turn.Turn.{Turn}
 use Rattle.examine.specs.Facts.{Joins}
 use Rattle.examine.specs.Search.{Setting, State, line-of, Known}
 
+abbrev pub arm : ℕ → ℕ → ℕ → ℕ → Arm
+arm r q s t = record { rule = r; from = q; inside = s; to = t }
+
 abbrev pub state-on : Side → ℕ → ℕ → ℕ
 state-on Inside s t = s
 state-on After s t = t

@@ -10,7 +10,6 @@ ghost use Rattle.examine.specs.Facts.{Leads};
 ghost use Rattle.examine.specs.Lines.{line-at};
 ghost use Rattle.examine.specs.Search.{setting, state, Low, line-of, Known, Fine, Went, Used, Led-by, Forked, is-empty};
 use crate::fact::Fact;
-use crate::fact::Sort;
 use crate::line::Line;
 use crate::line::LineStep;
 use crate::product::Draft;
@@ -82,18 +81,8 @@ impl<'f, 'p, C: Class> Product<'f, 'p, C> {
         ensures lines { λ _. ⌜ name (now (draft .exit) .lines) ≡ name (now (draft .entry) .lines) ⌝ }
         ensures helper { λ _. ⌜ name (now (draft .exit) .helper) ≡ name (now (draft .entry) .helper) ⌝ }
     {
-        let known = Fact {
-            sort: Sort::Together,
-            form: line.form,
-            first: to,
-            second: line.second,
-        };
-        let next = Fact {
-            sort: Sort::Apart,
-            form: line.form,
-            first: from,
-            second: from,
-        };
+        let known = Fact::together(line.form, to, line.second);
+        let next = Fact::apart(line.form, from);
         for (i, rule) in self.pattern.rules.iter().enumerate() {
             if !parts(i, *rule, r, from, line.second) {
                 continue;
@@ -134,73 +123,22 @@ impl<'f, 'p, C: Class> Product<'f, 'p, C> {
     {
         let form = line.form;
         let first = LineStep::First { rule: r, line: b };
-        let slip = Fact {
-            sort: Sort::Poised,
-            form,
-            first: to,
-            second: line.second,
-        };
-        self.lead(
-            draft,
-            b,
-            slip,
-            Fact {
-                sort: Sort::Poised,
-                form,
-                first: from,
-                second: line.second,
-            },
-            first,
-        )?;
-        let against = Fact {
-            sort: Sort::Poised,
-            form,
-            first: to,
-            second: from,
-        };
-        let apart = Fact {
-            sort: Sort::Apart,
-            form,
-            first: from,
-            second: from,
-        };
+        let slip = Fact::poised(form, to, line.second);
+        let slipped = Fact::poised(form, from, line.second);
+        self.lead(draft, b, slip, slipped, first)?;
+        let against = Fact::poised(form, to, from);
+        let apart = Fact::apart(form, from);
         self.lead(draft, b, against, apart, first)?;
-        let slide = Fact {
-            sort: Sort::Together,
-            form,
-            first: line.first,
-            second: to,
-        };
         let second = LineStep::Second { rule: r, line: b };
-        self.lead(
-            draft,
-            b,
-            slide,
-            Fact {
-                sort: Sort::Together,
-                form,
-                first: line.first,
-                second: from,
-            },
-            second,
-        )?;
-        let both = Fact {
-            sort: Sort::Apart,
-            form,
-            first: to,
-            second: to,
+        let slide = Fact::together(form, line.first, to);
+        let slid = Fact::together(form, line.first, from);
+        self.lead(draft, b, slide, slid, second)?;
+        let both = LineStep::Both {
+            first: r,
+            second: r,
+            line: b,
         };
-        self.lead(
-            draft,
-            b,
-            both,
-            apart,
-            LineStep::Both {
-                first: r,
-                second: r,
-                line: b,
-            },
-        )?;
+        self.lead(draft, b, Fact::apart(form, to), apart, both)?;
         self.forks(draft, b, line, r, from, to)
     }
 

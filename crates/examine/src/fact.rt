@@ -1,4 +1,5 @@
 ghost use mathlib.Core.Path.{_≡_};
+ghost use Rattle.examine.specs.Facts.{together, poised, apart};
 ghost use Rattle.examine.specs.Search.{code, rest, is-apart};
 
 // What is known of a run that is read from a form state and from two pattern states: no more than that (together),
@@ -48,6 +49,41 @@ impl Sort {
         match self {
             Sort::Together | Sort::Poised => false,
             Sort::Apart => true,
+        }
+    }
+}
+
+impl Fact {
+    pub fn together(form: u8, first: u8, second: u8) -> Fact
+        ensures { λ r. ⌜ r ≡ together form first second ⌝ }
+    {
+        Fact {
+            sort: Sort::Together,
+            form,
+            first,
+            second,
+        }
+    }
+
+    pub fn poised(form: u8, first: u8, second: u8) -> Fact
+        ensures { λ r. ⌜ r ≡ poised form first second ⌝ }
+    {
+        Fact {
+            sort: Sort::Poised,
+            form,
+            first,
+            second,
+        }
+    }
+
+    pub fn apart(form: u8, state: u8) -> Fact
+        ensures { λ r. ⌜ r ≡ apart form state ⌝ }
+    {
+        Fact {
+            sort: Sort::Apart,
+            form,
+            first: state,
+            second: state,
         }
     }
 }

@@ -7,7 +7,6 @@ ghost use Rattle.examine.specs.Facts.{Makes};
 ghost use Rattle.examine.specs.Lines.{line-at};
 ghost use Rattle.examine.specs.Search.{setting, state, Known, Fine, Went, Used};
 ghost use Rattle.examine.specs.Turns.{inside-fact, after-fact, whole-fact, Taken, Met, Made, Crossed};
-use crate::fact::Fact;
 use crate::fact::Sort;
 use crate::line::Line;
 use crate::line::LineStep;
@@ -41,24 +40,8 @@ impl<'f, 'p, C: Class> Product<'f, 'p, C> {
         ensures lines { λ _. ⌜ name (now (draft .exit) .lines) ≡ name (now (draft .entry) .lines) ⌝ }
         ensures helper { λ _. ⌜ name (now (draft .exit) .helper) ≡ name (now (draft .entry) .helper) ⌝ }
     {
-        let i = self.find(
-            draft,
-            Fact {
-                sort: inside,
-                form: trio.form.inside,
-                first: trio.first.inside,
-                second: trio.second.inside,
-            },
-        );
-        let j = self.find(
-            draft,
-            Fact {
-                sort: after,
-                form: trio.form.to,
-                first: trio.first.to,
-                second: trio.second.to,
-            },
-        );
+        let i = self.find(draft, trio.inside(inside));
+        let j = self.find(draft, trio.after(after));
         if !turn.pairs(i, j) {
             return Ok(());
         }
@@ -148,12 +131,7 @@ impl<'f, 'p, C: Class> Product<'f, 'p, C> {
                 continue;
             };
             let kind = all.least();
-            let second = Arm {
-                rule: i,
-                from: rule.from,
-                inside,
-                to: rule.to,
-            };
+            let second = Arm::new(i, rule.from, inside, rule.to);
             self.cross(
                 draft,
                 turn,
@@ -186,12 +164,7 @@ impl<'f, 'p, C: Class> Product<'f, 'p, C> {
             if turn.side.state(inside, rule.to) != line.form {
                 continue;
             }
-            let form = Arm {
-                rule: i,
-                from: rule.from,
-                inside,
-                to: rule.to,
-            };
+            let form = Arm::new(i, rule.from, inside, rule.to);
             for (j, other) in self.pattern.rules.iter().enumerate() {
                 let Step::Node {
                     class: beside,
@@ -207,12 +180,7 @@ impl<'f, 'p, C: Class> Product<'f, 'p, C> {
                 let Some(met) = class.meet(&beside) else {
                     continue;
                 };
-                let first = Arm {
-                    rule: j,
-                    from: other.from,
-                    inside: within,
-                    to: other.to,
-                };
+                let first = Arm::new(j, other.from, within, other.to);
                 verdict = self.seconds(draft, turn, line, met, form, first);
                 if verdict.is_err() {
                     break 'rules;

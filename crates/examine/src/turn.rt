@@ -1,5 +1,7 @@
 ghost use mathlib.Core.Path.{_≡_};
-ghost use Rattle.examine.specs.Turns.{pairs, state-on};
+ghost use Rattle.examine.specs.Turns.{arm, pairs, state-on, inside-fact, after-fact, whole-fact};
+use crate::fact::Fact;
+use crate::fact::Sort;
 
 // A rule that takes a node: its number and its states.
 #[derive(Clone, Copy)]
@@ -32,6 +34,45 @@ pub struct Turn {
     pub side: Side,
     pub line: usize,
     pub bound: usize,
+}
+
+impl Arm {
+    pub fn new(rule: usize, from: u8, inside: u8, to: u8) -> Arm
+        ensures { λ r. ⌜ r ≡ arm rule from inside to ⌝ }
+    {
+        Arm {
+            rule,
+            from,
+            inside,
+            to,
+        }
+    }
+}
+
+impl Trio {
+    // A fact about the inside of the node.
+    pub fn inside(self, sort: Sort) -> Fact
+        ensures { λ r. ⌜ r ≡ inside-fact sort self ⌝ }
+    {
+        Fact {
+            sort,
+            form: self.form.inside,
+            first: self.first.inside,
+            second: self.second.inside,
+        }
+    }
+
+    // A fact about what follows the node.
+    pub fn after(self, sort: Sort) -> Fact
+        ensures { λ r. ⌜ r ≡ after-fact sort self ⌝ }
+    {
+        Fact {
+            sort,
+            form: self.form.to,
+            first: self.first.to,
+            second: self.second.to,
+        }
+    }
 }
 
 impl Side {

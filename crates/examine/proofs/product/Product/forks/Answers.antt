@@ -8,7 +8,7 @@ use Rattle.std.proofs.shelf.Results.{err-from-errBy}
 use Rattle.examine.specs.Facts.{together, apart}
 use Rattle.examine.specs.Search.{setting, state, Forked}
 use Rattle.examine.proofs.Claims.{known-on, on-more, on-none}
-use Rattle.examine.proofs.Emptying.{used-on, line-on, line-low, rule-low, fork-leads, fork-done, forked-on}
+use Rattle.examine.proofs.Emptying.{used-on, line-on, lead-at, low-at, then-at, line-low, rule-low, fork-leads, fork-done, forked-on}
 use Rattle.examine.proofs.product.Product.forks.Needs as need
 
 pub loop-i-holds : need.loop-i-holds
@@ -23,12 +23,13 @@ lead-requires g c κs =
     record {
       fine = a .fine;
       used = used-on (a .grown) (c .pre .used);
-      before = (l .0, u .1, l .2);
-      after = (l .0, u .0, u .0);
+      before = low-at G (c .together-known .ensures) (l .0, u .1, l .2);
+      after = low-at G (c .apart-next .ensures) (l .0, u .0, u .0);
       leads = (
         c .args .r,
-        fork-leads G (c .args .b) (c .args .r) (c .args .from) (c .args .to) (c .loop-i .i) (c .args .line .second) (c .args .line .form) (c .rule-item .result)
-            (c .pre .rule) (c .loop-i-test .taken, sym (c .rule-item .is)) (sym (c .if-not-parts .ensures tt)),
+        lead-at G (c .args .b) (c .args .r) _ (c .together-known .ensures) (c .apart-next .ensures)
+            (fork-leads G (c .args .b) (c .args .r) (c .args .from) (c .args .to) (c .loop-i .i) (c .args .line .second) (c .args .line .form) (c .rule-item .result)
+            (c .pre .rule) (c .loop-i-test .taken, sym (c .rule-item .is)) (sym (c .if-not-parts .ensures tt))),
       );
     }
 
@@ -45,7 +46,7 @@ loop-i-again g c =
           (λ r₂ h. forked-on G (c .args .b) (c .args .r) r₂ (o .0 .grown) (c .loop-i .inv .1 r₂ h))
           (fork-done G s (c .args .b) l (c .pre .fine) (c .pre .line) (c .args .r) (c .args .from) (c .args .to) (c .loop-i .i) (c .rule-item .result)
           (c .pre .rule) (c .loop-i-test .taken, sym (c .rule-item .is))
-          (λ e w. o .1 (line-on G (c .args .b) (a .grown) (c .pre .used .0) (together (l .form) (c .args .to) (l .second)) w))),
+          (λ e w. then-at G (state (c .loop-i .draft)) t (c .args .b) (c .together-known .ensures) (c .apart-next .ensures) (o .1) (line-on G (c .args .b) (a .grown) (c .pre .used .0) (together (l .form) (c .args .to) (l .second)) w))),
       c .in-Continue-lead .ensures tt .lines ∙ c .loop-i .inv .2,
       c .in-Continue-lead .ensures tt .helper ∙ c .loop-i .inv .3,
     )

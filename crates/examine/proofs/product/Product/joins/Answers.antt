@@ -1,9 +1,10 @@
-use mathlib.Core.Path.{_≡_, refl, sym, _∙_, subst}
+use mathlib.Core.Path.{_≡_, refl, sym, _∙_, subst, subst₂}
 use Prim.Native.Nat.{ℕ, _<_}
 use native.Mathlib.Omega.{arith}
 use borrow.Author.Count.{below-more}
 use Rattle.examine.specs.Search.{setting, state, Went}
-use Rattle.examine.specs.Turns.{Crossed}
+use Rattle.examine.specs.declared.turn.Arm.{Arm}
+use Rattle.examine.specs.Turns.{Met, Crossed}
 use Rattle.examine.proofs.Claims.{on-more, on-none, used-low}
 use Rattle.examine.proofs.Emptying.{used-on, line-same, went-ok}
 use Rattle.examine.proofs.Joining.{turn-states, not-crossed, crossed-on, crossed-from, takes-are, empty-never, elsewhere, apart-kinds, met-by}
@@ -124,8 +125,9 @@ seconds-verdict-requires g c κs =
       fine = a .fine;
       used = used-on (a .grown) (c .pre .used);
       line = line-same (w .line) (a .grown) (c .pre .used) (c .rules .inv .2);
-      met = met-by G (c .in-Some .met) (c .in-Node .class) (c .in-Node-step .beside) (c .rules .i) (c .loop-j .j) (c .rule-item .result) (c .other-item .result) (c .in-Node .inside) (c .in-Node-step .within) (c .in-Node .marks) (c .in-Node-step .marks)
-          (c .rules-test .taken, sym (c .rule-item .is)) (c .in-Node .is) (c .loop-j-test .taken, sym (c .other-item .is)) (c .in-Node-step .is) (c .in-Some .ensures tt);
+      met = subst₂ (λ (x y : Arm). Met G (c .in-Some .met) x y) (sym (c .new-form .ensures)) (sym (c .new-first .ensures))
+          (met-by G (c .in-Some .met) (c .in-Node .class) (c .in-Node-step .beside) (c .rules .i) (c .loop-j .j) (c .rule-item .result) (c .other-item .result) (c .in-Node .inside) (c .in-Node-step .within) (c .in-Node .marks) (c .in-Node-step .marks)
+          (c .rules-test .taken, sym (c .rule-item .is)) (c .in-Node .is) (c .loop-j-test .taken, sym (c .other-item .is)) (c .in-Node-step .is) (c .in-Some .ensures tt));
     }
 
 pub loop-j-again : need.loop-j-again
@@ -138,11 +140,12 @@ loop-j-again g c =
     let i = c .rules .i in
     let n = c .loop-j .j in
     let a = c .loop-j .inv .0 in
-    let o = went-ok G ((r : ℕ) → Crossed G t′ t w i n r) (c .seconds-verdict .result) (sym (c .if-is-err .ensures tt .value)) (c .seconds-verdict .ensures .went) in (
+    let o = went-ok G ((r : ℕ) → Crossed G t′ t w (c .new-form .result .rule) (c .new-first .result .rule) r) (c .seconds-verdict .result) (sym (c .if-is-err .ensures tt .value)) (c .seconds-verdict .ensures .went) in
+    let d = subst₂ (λ (x y : Arm). (r : ℕ) → Crossed G t′ t w (x .rule) (y .rule) r) (c .new-form .ensures) (c .new-first .ensures) (o .2) in (
       on-more a (o .1),
       below-more (λ r₁. (r₂ : ℕ) → Crossed G s t w i r₁ r₂) n
           (λ r₁ h r₂. crossed-on G w i r₁ r₂ (o .1 .grown) (c .loop-j .inv .1 r₁ h r₂))
-          (λ r₂. crossed-from G w i n r₂ (c .pre .used .0) (a .grown) (o .2 r₂)),
+          (λ r₂. crossed-from G w i n r₂ (c .pre .used .0) (a .grown) (d r₂)),
       o .0,
       c .seconds-verdict .ensures .lines ∙ c .loop-j .inv .3,
       c .seconds-verdict .ensures .helper ∙ c .loop-j .inv .4,

@@ -1,10 +1,11 @@
-use mathlib.Core.Path.{_≡_, refl, sym, _∙_}
+use mathlib.Core.Path.{_≡_, refl, sym, _∙_, subst}
 use Prim.Native.Nat.{ℕ, _<_}
 use native.Mathlib.Omega.{arith}
 use borrow.Author.Count.{below-more}
 use Rattle.std.proofs.shelf.Results.{err-from-errBy}
 use Rattle.examine.specs.Search.{setting, state}
-use Rattle.examine.specs.Turns.{Crossed}
+use Rattle.examine.specs.declared.turn.Arm.{Arm}
+use Rattle.examine.specs.Turns.{Taken, Crossed}
 use Rattle.examine.proofs.Claims.{on-more, on-none}
 use Rattle.examine.proofs.Emptying.{used-on}
 use Rattle.examine.proofs.Joining.{turn-states, not-crossed, crossed-on, crossed-from, takes-are, empty-never, elsewhere, apart-kinds, taken-by}
@@ -69,8 +70,9 @@ cross-requires g c κs =
     record {
       fine = a .fine;
       used = used-on (a .grown) (c .pre .used);
-      taken = taken-by G (c .in-Some .all) (c .args .met) (c .in-Node .class) (c .args .form) (c .args .first) (c .loop-i .i) (c .least-kind .result) (c .rule-item .result) (c .in-Node .inside) (c .in-Node .marks)
-          (c .pre .met) (c .loop-i-test .taken, sym (c .rule-item .is)) (c .in-Node .is) (c .in-Some .ensures tt) (c .least-kind .ok) (c .least-kind .ensures .member);
+      taken = subst (λ (x : Arm). Taken G (record { kind = c .least-kind .result; form = c .args .form; first = c .args .first; second = x })) (sym (c .new-second .ensures))
+          (taken-by G (c .in-Some .all) (c .args .met) (c .in-Node .class) (c .args .form) (c .args .first) (c .loop-i .i) (c .least-kind .result) (c .rule-item .result) (c .in-Node .inside) (c .in-Node .marks)
+          (c .pre .met) (c .loop-i-test .taken, sym (c .rule-item .is)) (c .in-Node .is) (c .in-Some .ensures tt) (c .least-kind .ok) (c .least-kind .ensures .member));
     }
 
 pub loop-i-again : need.loop-i-again
@@ -85,7 +87,8 @@ loop-i-again g c =
       on-more a (o .0),
       below-more (λ r. Crossed G s t (c .args .turn) f p r) (c .loop-i .i)
           (λ r h. crossed-on G (c .args .turn) f p r (o .0 .grown) (c .loop-i .inv .1 r h))
-          (crossed-from G (c .args .turn) f p (c .loop-i .i) (c .pre .used .0) (a .grown) (o .1)),
+          (crossed-from G (c .args .turn) f p (c .loop-i .i) (c .pre .used .0) (a .grown)
+          (subst (λ (x : Arm). Crossed G (state (c .loop-i .draft)) t (c .args .turn) f p (x .rule)) (c .new-second .ensures) (o .1))),
       c .in-Continue-cross .ensures tt .lines ∙ c .loop-i .inv .2,
       c .in-Continue-cross .ensures tt .helper ∙ c .loop-i .inv .3,
     )
