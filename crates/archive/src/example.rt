@@ -64,18 +64,32 @@ fn form_rules() -> [Rule<Mask>; 1] {
 
 // The pattern: nodes of kinds 1 to 3, then one of kind 2 with mark 0, then nodes of kind 2.
 fn pattern_rules() -> [Rule<Mask>; 3] {
-    [rule(0, 14, 2, 0, 0), rule(0, 4, 2, 1, 1), rule(1, 4, 2, 1, 0)]
+    [
+        rule(0, 14, 2, 0, 0),
+        rule(0, 4, 2, 1, 1),
+        rule(1, 4, 2, 1, 0),
+    ]
 }
 
 // What a refusal says, by its numbers.
 fn refused(heap: Global, call: &str, fault: &Fault) -> Result<String, AnyError> {
     let number = fault.number();
     let place = fault.place();
-    Ok(format!(heap, "{call} is refused by number {number}, place {place}.\n")?)
+    Ok(
+        format!(
+            heap,
+            "{call} is refused by number {number}, place {place}.\n"
+        )?,
+    )
 }
 
 // What find lists for a mark, as a sentence.
-fn found(heap: Global, sealed: &SealedBox, shelf: &Shelf<Mask>, mark: u8) -> Result<String, AnyError> {
+fn found(
+    heap: Global,
+    sealed: &SealedBox,
+    shelf: &Shelf<Mask>,
+    mark: u8,
+) -> Result<String, AnyError> {
     let mut list = vec![in heap; NO_ENTRY; 1024]?;
     let mut scratch = vec![in heap; 0u64; 3075]?;
     let mut spots = [NO_SPOT; 4];
@@ -120,7 +134,10 @@ fn fill(heap: Global, laid: LaidBox, shelf: &mut Shelf<Mask>) -> Result<String, 
         Ok(laid) => laid.seal(),
         Err(back) => return refused(heap, "file", &back.fault),
     };
-    let mut out = String::from_str(heap, "The pattern is admitted: no record that fits the form, however large, has two readings under it.\nA record of 10 bytes is filed. The box is sealed.\n")?;
+    let mut out = String::from_str(
+        heap,
+        "The pattern is admitted: no record that fits the form, however large, has two readings under it.\nA record of 10 bytes is filed. The box is sealed.\n",
+    )?;
     out.push_str(found(heap, &sealed, shelf, 0)?.as_str())?;
     out.push_str(found(heap, &sealed, shelf, 1)?.as_str())?;
     Ok(out)
@@ -155,7 +172,10 @@ pub fn tell(heap: Global) -> Result<String, AnyError> {
     let new = NewBox {};
     match new.lay(&mut shelf, table) {
         Ok(laid) => {
-            let mut out = String::from_str(heap, "A form is laid: one node of kind 2 with nothing inside.\n")?;
+            let mut out = String::from_str(
+                heap,
+                "A form is laid: one node of kind 2 with nothing inside.\n",
+            )?;
             out.push_str(fill(heap, laid, &mut shelf)?.as_str())?;
             Ok(out)
         }

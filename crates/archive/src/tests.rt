@@ -50,6 +50,12 @@ fn a_stray_byte_is_explained(rt: LibcRuntime) -> Result<(), Fail> {
 #[test]
 fn the_example_points_once(rt: LibcRuntime) -> Result<(), Fail> {
     let told = tell(rt.alloc())?;
-    check(told.as_str().contains("Mark 0 of pattern 0 in record 0: (0, 10).\n"))?;
-    check(told.as_str().contains("Mark 1 of pattern 0 in record 0: no node.\n"))
+    check(
+        told.as_str()
+            .contains("Mark 0 of pattern 0 in record 0: (0, 10).\n"),
+    )?;
+    check(
+        told.as_str()
+            .contains("Mark 1 of pattern 0 in record 0: no node.\n"),
+    )
 }

@@ -16,7 +16,7 @@ use Rattle.table.specs.Table.{Tab, At}
 use Rattle.table.specs.Reading.{Twofold}
 use Rattle.boxes.specs.declared.fault.Cause.the-variants.{NoReading, ShortList}
 use Rattle.boxes.specs.declared.fault.Fault.{Fault}
-use Rattle.boxes.specs.declared.fault.Fault.the-variants.{Record, Table, Boxes}
+use Rattle.boxes.specs.declared.fault.Fault.the-variants.{Class, Record, Table, Boxes}
 use Rattle.boxes.specs.declared.shelf.Spot.{Spot}
 use Rattle.boxes.specs.Limits.{max-mark, scratch-needs}
 use Rattle.boxes.specs.Fault.{number, fault}
@@ -117,7 +117,7 @@ Seen view (Ok r) (Ok s) = r ≡ s
 
 -- a fault, without the place of 12: which double is shown is free
 abbrev pub but-top : Fault → Fault
-but-top f = elim f [ Record e ↦ Record e | Table e ↦ Table (elim (e .cause) [ Bounds ↦ e | EmptyRule ↦ e | ShortBuffer ↦ e | Double ↦ refusal (e .role) Double 0 ]) | Boxes e ↦ Boxes e ]
+but-top f = elim f [ Class e ↦ Class e | Record e ↦ Record e | Table e ↦ Table (elim (e .cause) [ Bounds ↦ e | EmptyRule ↦ e | ShortBuffer ↦ e | Double ↦ refusal (e .role) Double 0 ]) | Boxes e ↦ Boxes e ]
 
 -- the relations leave nothing open: answer and state after are fixed
 abbrev pub Fixes : {S R V : Type 0} → (Fault → V) → (Result R Fault → S → Type 0) → Type 0

@@ -1,8 +1,11 @@
 use record::fault::Fault as RecordFault;
+use table::class_fault::ClassFault;
+use table::class_fault::ClassFaultDebug;
+use table::class_fault::ClassFaultPartialEq;
 use table::fault::Fault as TableFault;
 use table::fault::Role;
 ghost use mathlib.Core.Path.{_≡_};
-ghost use Rattle.boxes.specs.declared.fault.Fault.the-variants.{Record, Table};
+ghost use Rattle.boxes.specs.declared.fault.Fault.the-variants.{Class, Record, Table};
 ghost use Rattle.boxes.specs.Fault.{own-number, number, place, layer-of};
 use record::fault::FaultDebug as _;
 use record::fault::FaultPartialEq as _;
@@ -50,6 +53,7 @@ pub struct BoxFault {
 // The layer that refuses.
 #[derive(Clone, Copy, PartialEq, Eq, Debug)]
 pub enum Layer {
+    Class,
     Record,
     Table(Role),
     Boxes,
@@ -58,6 +62,7 @@ pub enum Layer {
 // A refusal of a box's call. One of a lower layer comes up unchanged.
 #[derive(Clone, Copy, PartialEq, Eq, Debug)]
 pub enum Fault {
+    Class(ClassFault),
     Record(RecordFault),
     Table(TableFault),
     Boxes(BoxFault),
@@ -68,6 +73,7 @@ impl Fault {
         ensures { λ r. ⌜ r ≡ number (now (self .entry)) ⌝ }
     {
         match self {
+            Fault::Class(fault) => fault.number(),
             Fault::Record(fault) => fault.number(),
             Fault::Table(fault) => fault.number(),
             Fault::Boxes(fault) => fault.cause.number(),
@@ -78,6 +84,7 @@ impl Fault {
         ensures { λ r. ⌜ r ≡ layer-of (now (self .entry)) ⌝ }
     {
         match self {
+            Fault::Class(_) => Layer::Class,
             Fault::Record(_) => Layer::Record,
             Fault::Table(fault) => Layer::Table(fault.role),
             Fault::Boxes(_) => Layer::Boxes,
@@ -88,10 +95,19 @@ impl Fault {
         ensures { λ r. ⌜ r ≡ place (now (self .entry)) ⌝ }
     {
         match self {
+            Fault::Class(fault) => fault.place,
             Fault::Record(fault) => fault.place,
             Fault::Table(fault) => fault.place,
             Fault::Boxes(fault) => fault.place,
         }
+    }
+}
+
+pub impl From<ClassFault> for Fault as FaultFromClass {
+    ghost converts = { λ x y. y ≡ Class x };
+
+    fn from(fault: ClassFault) -> Fault {
+        Fault::Class(fault)
     }
 }
 

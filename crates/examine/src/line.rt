@@ -34,3 +34,14 @@ pub struct Line {
     pub run: Option<Node>,
     pub step: LineStep,
 }
+
+impl Line {
+    // A line that nothing was written to.
+    pub const BLANK: Line = Line {
+        form: 0,
+        first: 0,
+        second: 0,
+        run: None,
+        step: LineStep::Stop,
+    };
+}

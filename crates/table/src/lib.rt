@@ -19,5 +19,3 @@ mod settle;
 mod states;
 mod steps;
 pub mod table;
-#[cfg(test)]
-mod tests;
