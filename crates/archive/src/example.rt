@@ -144,7 +144,7 @@ fn fill(heap: Global, laid: LaidBox, shelf: &mut Shelf<Mask>) -> Result<String, 
 }
 
 // The whole example, told in sentences.
-pub fn tell(heap: Global) -> Result<String, AnyError> {
+pub(crate) fn tell(heap: Global) -> Result<String, AnyError> {
     // what is proved of every history of calls, this one among them
     promise::<Mask>();
     let blank = rule(0, 1, 0, 0, 0);

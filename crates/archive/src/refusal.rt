@@ -47,7 +47,12 @@ fn push_flaw(out: &mut String, flaw: Flaw, place: usize) -> fmt::Result {
 }
 
 // Why the bytes are no record, in sentences.
-pub fn explain(heap: Global, name: &str, bytes: &[u8], fault: &Fault) -> Result<String, AnyError> {
+pub(crate) fn explain(
+    heap: Global,
+    name: &str,
+    bytes: &[u8],
+    fault: &Fault,
+) -> Result<String, AnyError> {
     let number = fault.number();
     let place = fault.place;
     let mut out = format!(

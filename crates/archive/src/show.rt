@@ -30,7 +30,7 @@ pub struct Picture {
 }
 
 // The record drawn as a tree, or the sentence that says why the bytes are none.
-pub fn render(heap: Global, name: &str, bytes: &[u8]) -> Result<Picture, AnyError> {
+pub(crate) fn render(heap: Global, name: &str, bytes: &[u8]) -> Result<Picture, AnyError> {
     let mut list = vec![in heap; BLANK; MAX_NODES]?;
     match index(bytes, &mut list) {
         Ok(top) => Ok(Picture {
@@ -53,7 +53,7 @@ fn read(rt: &LibcRuntime, name: &str) -> io::Result<Vec<u8>> {
 }
 
 // Prints what a record file holds, and answers whether it is a record.
-pub fn show(rt: &LibcRuntime, name: &str) -> Result<bool, AnyError> {
+pub(crate) fn show(rt: &LibcRuntime, name: &str) -> Result<bool, AnyError> {
     match read(rt, name) {
         Ok(bytes) => {
             let shown = render(rt.alloc(), name, &bytes)?;

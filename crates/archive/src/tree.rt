@@ -60,7 +60,7 @@ fn push_node(out: &mut String, bytes: &[u8], entry: &Entry) -> fmt::Result {
 }
 
 // The record with the index `list` up to `top`, under a line that says how large it is.
-pub fn draw(
+pub(crate) fn draw(
     heap: Global,
     name: &str,
     bytes: &[u8],

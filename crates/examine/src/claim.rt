@@ -49,7 +49,7 @@ impl<'f, 'p, C: Class> Product<'f, 'p, C> {
     }
 
     // The line of a fact, or 0.
-    pub fn find(&self, draft: &Draft, fact: Fact) -> usize
+    pub(crate) fn find(&self, draft: &Draft, fact: Fact) -> usize
         requires fine { ⌜ Fine (setting (C·Class .kinds) (now self)) (state (now draft)) ⌝ }
         requires low { ⌜ Low (setting (C·Class .kinds) (now self)) fact ⌝ }
         ensures { λ r. ⌜ r ≡ line-of (setting (C·Class .kinds) (now (self .entry))) (state (now (draft .entry))) fact ⌝ }
@@ -59,7 +59,7 @@ impl<'f, 'p, C: Class> Product<'f, 'p, C> {
     }
 
     // Adds a line for the fact that it shows, if the fact has none; `Err` is the line of a double.
-    pub fn claim(&self, draft: &mut Draft, sort: Sort, line: Line) -> Result<(), usize>
+    pub(crate) fn claim(&self, draft: &mut Draft, sort: Sort, line: Line) -> Result<(), usize>
         requires fine { ⌜ Fine (setting (C·Class .kinds) (now self)) (state (now draft)) ⌝ }
         requires due { ⌜ Due (setting (C·Class .kinds) (now self)) (state (now draft)) sort line ⌝ }
         ensures went { λ r. ⌜ Went (setting (C·Class .kinds) (now (self .entry))) (state (now (draft .entry))) (state (now (draft .exit)))

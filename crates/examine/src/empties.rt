@@ -170,7 +170,7 @@ impl<'f, 'p, C: Class> Product<'f, 'p, C> {
     }
 
     // Every empty rule to what line b shows.
-    pub fn empties(&self, draft: &mut Draft, b: usize) -> Result<(), usize>
+    pub(crate) fn empties(&self, draft: &mut Draft, b: usize) -> Result<(), usize>
         requires fine { ⌜ Fine (setting (C·Class .kinds) (now self)) (state (now draft)) ⌝ }
         requires used { ⌜ Used (state (now draft)) b ⌝ }
         ensures went { λ x. ⌜ Went (setting (C·Class .kinds) (now (self .entry))) (state (now (draft .entry))) (state (now (draft .exit)))

@@ -22,7 +22,7 @@ pub struct Fact {
 
 impl Sort {
     // The sorts from 0 on.
-    pub fn code(self) -> usize
+    pub(crate) fn code(self) -> usize
         ensures { λ r. ⌜ r ≡ code self ⌝ }
     {
         match self {
@@ -33,7 +33,7 @@ impl Sort {
     }
 
     // The sort of fact that the line of a fact of this sort shows as well.
-    pub fn rest(self) -> Sort
+    pub(crate) fn rest(self) -> Sort
         ensures { λ r. ⌜ r ≡ rest self ⌝ }
     {
         match self {
@@ -43,7 +43,7 @@ impl Sort {
         }
     }
 
-    pub fn is_apart(self) -> bool
+    pub(crate) fn is_apart(self) -> bool
         ensures { λ r. ⌜ r ≡ is-apart self ⌝ }
     {
         match self {
@@ -54,7 +54,7 @@ impl Sort {
 }
 
 impl Fact {
-    pub fn together(form: u8, first: u8, second: u8) -> Fact
+    pub(crate) fn together(form: u8, first: u8, second: u8) -> Fact
         ensures { λ r. ⌜ r ≡ together form first second ⌝ }
     {
         Fact {
@@ -65,7 +65,7 @@ impl Fact {
         }
     }
 
-    pub fn poised(form: u8, first: u8, second: u8) -> Fact
+    pub(crate) fn poised(form: u8, first: u8, second: u8) -> Fact
         ensures { λ r. ⌜ r ≡ poised form first second ⌝ }
     {
         Fact {
@@ -76,7 +76,7 @@ impl Fact {
         }
     }
 
-    pub fn apart(form: u8, state: u8) -> Fact
+    pub(crate) fn apart(form: u8, state: u8) -> Fact
         ensures { λ r. ⌜ r ≡ apart form state ⌝ }
     {
         Fact {

@@ -147,7 +147,7 @@ impl<'f, 'p, C: Class> Product<'f, 'p, C> {
     }
 
     // Takes up a line: every form rule and every pattern rule for the first reading to its states. A double leaves both loops.
-    pub fn joins(&self, draft: &mut Draft, turn: Turn) -> Result<(), usize>
+    pub(crate) fn joins(&self, draft: &mut Draft, turn: Turn) -> Result<(), usize>
         requires fine { ⌜ Fine (setting (C·Class .kinds) (now self)) (state (now draft)) ⌝ }
         requires used { ⌜ Used (state (now draft)) (turn .line) ⌝ }
         ensures went { λ x. ⌜ Went (setting (C·Class .kinds) (now (self .entry))) (state (now (draft .entry))) (state (now (draft .exit)))

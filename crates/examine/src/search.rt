@@ -80,7 +80,7 @@ impl<'f, 'p, C: Class> Product<'f, 'p, C> {
 
     // Finds every fact, or a double. Lines below `a` have been taken inside a node, and those below `b` after one,
     // each with all of the others.
-    pub fn search(&self, draft: &mut Draft) -> Result<(), usize>
+    pub(crate) fn search(&self, draft: &mut Draft) -> Result<(), usize>
         requires fine { ⌜ Fine (setting (C·Class .kinds) (now self)) (state (now draft)) ⌝ }
         ensures went { λ x. ⌜ Went (setting (C·Class .kinds) (now (self .entry))) (state (now (draft .entry))) (state (now (draft .exit)))
             (Closed (C·Class .kinds) (setting (C·Class .kinds) (now (self .entry)) .form) (setting (C·Class .kinds) (now (self .entry)) .pattern)

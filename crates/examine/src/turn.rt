@@ -37,7 +37,7 @@ pub struct Turn {
 }
 
 impl Arm {
-    pub fn new(rule: usize, from: u8, inside: u8, to: u8) -> Arm
+    pub(crate) fn new(rule: usize, from: u8, inside: u8, to: u8) -> Arm
         ensures { λ r. ⌜ r ≡ arm rule from inside to ⌝ }
     {
         Arm {
@@ -51,7 +51,7 @@ impl Arm {
 
 impl Trio {
     // A fact about the inside of the node.
-    pub fn inside(self, sort: Sort) -> Fact
+    pub(crate) fn inside(self, sort: Sort) -> Fact
         ensures { λ r. ⌜ r ≡ inside-fact sort self ⌝ }
     {
         Fact {
@@ -63,7 +63,7 @@ impl Trio {
     }
 
     // A fact about what follows the node.
-    pub fn after(self, sort: Sort) -> Fact
+    pub(crate) fn after(self, sort: Sort) -> Fact
         ensures { λ r. ⌜ r ≡ after-fact sort self ⌝ }
     {
         Fact {
@@ -77,7 +77,7 @@ impl Trio {
 
 impl Side {
     // The state of a node rule on this side.
-    pub fn state(self, inside: u8, to: u8) -> u8
+    pub(crate) fn state(self, inside: u8, to: u8) -> u8
         ensures { λ r. ⌜ r ≡ state-on self inside to ⌝ }
     {
         match self {
@@ -89,7 +89,7 @@ impl Side {
 
 impl Turn {
     // Whether two lines, one inside a node and one after it, are due in this turn.
-    pub fn pairs(self, inside: usize, after: usize) -> bool
+    pub(crate) fn pairs(self, inside: usize, after: usize) -> bool
         ensures { λ r. ⌜ r ≡ pairs self inside after ⌝ }
     {
         match self.side {
