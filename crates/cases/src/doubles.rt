@@ -145,9 +145,10 @@ fn buffers_are_measured() -> Result<(), Fail> {
 
 // Rules that read nodes of kind 2 in one another, in states 0 to `cycle` - 1 in turn; what follows a node is read from `end`.
 fn nested(rules: &mut [Rule<Mask>], cycle: u8, end: u8) {
-    let mut state = 0;
+    let mut state: u8 = 0;
     for rule in rules.iter_mut() {
-        let next = if state + 1 < cycle { state + 1 } else { 0 };
+        let up = state.saturating_add(1);
+        let next = if up < cycle { up } else { 0 };
         *rule = takes(state, TWO, next, end, 0);
         state = next;
     }
@@ -157,11 +158,11 @@ fn nested(rules: &mut [Rule<Mask>], cycle: u8, end: u8) {
 fn levels(sheet: &[Line], top: usize) -> usize {
     let run = Sheet { lines: sheet, top };
     let mut place = top;
-    let mut levels = 0;
+    let mut levels: usize = 0;
     for _ in 0..100u8 {
         match run.look(place) {
             Some(node) => {
-                levels += 1;
+                levels = levels.saturating_add(1);
                 place = node.inside;
             }
             None => return levels,
