@@ -143,17 +143,6 @@ fn buffers_are_measured() -> Result<(), Fail> {
     }
 }
 
-// Rules that read nodes of kind 2 in one another, in states 0 to `cycle` - 1 in turn; what follows a node is read from `end`.
-fn nested(rules: &mut [Rule<Mask>], cycle: u8, end: u8) {
-    let mut state: u8 = 0;
-    for rule in rules.iter_mut() {
-        let up = state.saturating_add(1);
-        let next = if up < cycle { up } else { 0 };
-        *rule = takes(state, TWO, next, end, 0);
-        state = next;
-    }
-}
-
 // How many levels a shown run has, if each of its nodes is alone in its run.
 fn levels(sheet: &[Line], top: usize) -> usize {
     let run = Sheet { lines: sheet, top };
@@ -174,10 +163,30 @@ fn levels(sheet: &[Line], top: usize) -> usize {
 // The form asks for a multiple of 13 levels, and the pattern has two readings at multiples of 5.
 #[test]
 fn a_double_of_65_levels_is_found() -> Result<(), Fail> {
-    let mut f = [takes(14, TWO, 1, 13, 0); 14];
-    nested(&mut f[0..13], 13, 13);
-    let mut p = [skips(0, 5); 6];
-    nested(&mut p[0..5], 5, 5);
+    let f = [
+        takes(0, TWO, 1, 13, 0),
+        takes(1, TWO, 2, 13, 0),
+        takes(2, TWO, 3, 13, 0),
+        takes(3, TWO, 4, 13, 0),
+        takes(4, TWO, 5, 13, 0),
+        takes(5, TWO, 6, 13, 0),
+        takes(6, TWO, 7, 13, 0),
+        takes(7, TWO, 8, 13, 0),
+        takes(8, TWO, 9, 13, 0),
+        takes(9, TWO, 10, 13, 0),
+        takes(10, TWO, 11, 13, 0),
+        takes(11, TWO, 12, 13, 0),
+        takes(12, TWO, 0, 13, 0),
+        takes(14, TWO, 1, 13, 0),
+    ];
+    let p = [
+        takes(0, TWO, 1, 5, 0),
+        takes(1, TWO, 2, 5, 0),
+        takes(2, TWO, 3, 5, 0),
+        takes(3, TWO, 4, 5, 0),
+        takes(4, TWO, 0, 5, 0),
+        skips(0, 5),
+    ];
     let form = Table {
         starts: 1 << 14,
         finals: 1 | 1 << 13,
