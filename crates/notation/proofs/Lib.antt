@@ -1,0 +1,5 @@
+mod Quoted
+mod Written
+mod Named
+mod Digits
+mod Spelling
