@@ -1,4 +1,6 @@
 // The archive's program: draws a record file as a tree, or says why its bytes are no record.
+#![tactic(auto)]
+
 mod example;
 mod refusal;
 mod show;
@@ -8,8 +10,8 @@ mod tree;
 
 use crate::example::tell;
 use crate::show::show;
-use anyhow::anyhow;
 use std::env;
+use std::process::ExitCode;
 
 const USAGE: &str = "usage: archive show FILE
        archive example
@@ -40,14 +42,14 @@ fn run(rt: &HostRuntime) -> anyhow::Result<bool> {
     }
 }
 
-fn main(rt: HostRuntime) -> anyhow::Result<()> {
+fn main(rt: HostRuntime) -> anyhow::Result<ExitCode> {
     match run(&rt) {
-        Ok(true) => Ok(()),
+        Ok(true) => Ok(ExitCode::SUCCESS),
         // what was wrong has been said
-        Ok(false) => Err(anyhow!("refused")),
+        Ok(false) => Ok(ExitCode::FAILURE),
         Err(error) => {
             eprintln!(rt; "archive: {error}")?;
-            Err(error)
+            Ok(ExitCode::FAILURE)
         }
     }
 }

@@ -1,26 +1,25 @@
 // Refusals as sentences: number, layer, place, what it means here and what to do.
 use record::fault::{Cause, Fault, Flaw};
 use record::limits::{MAX_BYTES, MAX_LEVELS, MAX_NODES};
-use std::alloc::Global;
-use std::fmt;
+use std::alloc::{AllocError, Global};
 use std::fmt::Write;
 
 // The first bytes at a place, in hexadecimal.
-fn push_bytes(out: &mut String, bytes: &[u8], place: usize) -> fmt::Result {
+fn push_bytes(out: &mut String, bytes: &[u8], place: usize) -> Result<(), AllocError> {
     let mut none = true;
     for byte in bytes.iter().skip(place).take(8) {
-        out.write_str(if none { " The bytes there are " } else { " " })?;
+        out.push_str(if none { " The bytes there are " } else { " " })?;
         write!(out, "{byte:02x}")?;
         none = false;
     }
     if !none {
-        out.write_char('.')?;
+        out.push('.')?;
     }
     Ok(())
 }
 
 // What is wrong with the node at a place.
-fn push_flaw(out: &mut String, flaw: Flaw, place: usize) -> fmt::Result {
+fn push_flaw(out: &mut String, flaw: Flaw, place: usize) -> Result<(), AllocError> {
     match flaw {
         Flaw::TooDeep => write!(
             out,
@@ -66,8 +65,8 @@ pub(crate) fn explain(
             out,
             "the index list is too short: it needs {place} entries."
         )?,
-        Cause::NoNode => out.write_str("no node starts at this offset.")?,
+        Cause::NoNode => out.push_str("no node starts at this offset.")?,
     }
-    out.write_char('\n')?;
+    out.push('\n')?;
     Ok(out)
 }

@@ -1,8 +1,7 @@
 // A record drawn as a tree, one node a line.
 use record::index::Entry;
 use record::text::text;
-use std::alloc::Global;
-use std::fmt;
+use std::alloc::{AllocError, Global};
 use std::fmt::Write;
 
 // A node on the way down to the present one: where it ends, and whether it is the last of its run.
@@ -23,18 +22,18 @@ fn leave(open: &mut Vec<Branch>, offset: usize) {
 }
 
 // The lines that lead down to a node: nothing at the outermost level.
-fn push_stem(out: &mut String, open: &[Branch], last: bool) -> fmt::Result {
+fn push_stem(out: &mut String, open: &[Branch], last: bool) -> Result<(), AllocError> {
     for branch in open.iter().skip(1) {
-        out.write_str(if branch.last { "   " } else { "│  " })?;
+        out.push_str(if branch.last { "   " } else { "│  " })?;
     }
     if !open.is_empty() {
-        out.write_str(if last { "└─ " } else { "├─ " })?;
+        out.push_str(if last { "└─ " } else { "├─ " })?;
     }
     Ok(())
 }
 
 // A node's text in quotes: as it is where it is printable, and with other bytes escaped.
-fn push_text(out: &mut String, bytes: &[u8]) -> fmt::Result {
+fn push_text(out: &mut String, bytes: &[u8]) -> Result<(), AllocError> {
     match std::str::from_utf8(bytes) {
         Ok(text) => write!(out, "\"{}\"", text.escape_debug()),
         Err(_) => write!(out, "\"{}\"", bytes.escape_ascii()),
@@ -42,7 +41,7 @@ fn push_text(out: &mut String, bytes: &[u8]) -> fmt::Result {
 }
 
 // The line of one node.
-fn push_node(out: &mut String, bytes: &[u8], entry: &Entry) -> fmt::Result {
+fn push_node(out: &mut String, bytes: &[u8], entry: &Entry) -> Result<(), AllocError> {
     let kind = entry.node.kind;
     let offset = entry.offset;
     let size = entry.size;
@@ -50,12 +49,12 @@ fn push_node(out: &mut String, bytes: &[u8], entry: &Entry) -> fmt::Result {
     match text(bytes, offset) {
         Ok([]) => {}
         Ok(words) => {
-            out.write_str(": ")?;
+            out.push_str(": ")?;
             push_text(out, words)?;
         }
         Err(_) => {}
     }
-    out.write_char('\n')
+    out.push('\n')
 }
 
 // The record with the index `list` up to `top`, under a line that says how large it is.

@@ -1,5 +1,5 @@
 -- What examining refuses once the checks before it have passed.
-use Rattle.std.proofs.Common.{◌≡◌, ℕ, ◌<◌, ◌≤◌, Bool, ◌⊎◌, List, Ok, Err, ap, inl, inr, arith}
+use Rattle.std.proofs.Common.{ℕ, Bool, List, Ok, Err, ap, inl, inr, arith}
 use Rattle.table.specs.declared.fault.Role.TheVariants.{Form, Pattern}
 use Rattle.table.specs.declared.fault.Fault.{Fault as TableFault}
 use Rattle.table.specs.Table.{Tab}

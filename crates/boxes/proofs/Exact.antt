@@ -1,5 +1,5 @@
 -- 12 exactly if there is a double.
-use Rattle.std.proofs.Common.{◌≡◌, ℕ, Bool, List, [], ◌∷◌, ◌++◌, Ok, Err, Result, sym, refl, ap, ◌∙◌, subst}
+use Rattle.std.proofs.Common.{◌≡◌, ℕ, Bool, Ok, Err, Result, sym, refl, ap, ◌∙◌, subst}
 use Rattle.boxes.specs.Fault.{place}
 use Rattle.boxes.specs.declared.fault.Fault.{Fault}
 use Rattle.boxes.specs.Calls.{double_check, checks_before_12}

@@ -1,5 +1,5 @@
 -- The run of an indexed record is that of its bytes.
-use Rattle.std.proofs.Common.{◌≡◌, ℕ, ◌≤◌, Bool, ◌⊎◌, List, Ok, Err, sym, ap, ◌∙◌, subst, inl, inr, arith}
+use Rattle.std.proofs.Common.{ℕ, ◌≤◌, Bool, List, Ok, Err, sym, ap, ◌∙◌, subst, inl, inr, arith}
 use Rattle.record.specs.declared.index.Entry.{Entry}
 use Rattle.record.specs.Run.{Run, run_at}
 use Rattle.record.specs.Index.{erase, lowered, shown, IndexedAs}

@@ -1,5 +1,5 @@
 -- Find on box and shelf answers as find by the book.
-use Rattle.std.proofs.Common.{◌≡◌, ℕ, ◌+◌, ◌<◌, ◌≤◌, Bool, true, false, ◌⊎◌, List, [], ◌∷◌, ◌++◌, length, get_or, Ok, Err, Result, sym, refl, ap, ◌∙◌, subst, subst₂, inl, inr, arith}
+use Rattle.std.proofs.Common.{◌≡◌, ℕ, ◌+◌, ◌≤◌, Bool, ◌⊎◌, List, [], ◌∷◌, ◌++◌, length, Ok, Err, Result, sym, ap, ◌∙◌, subst, subst₂, inl, inr, arith}
 use Rattle.std.specs.List.{flat_map}
 use Rattle.boxes.specs.Check.{Check, when, unless, Fails, Passes, each}
 use Rattle.boxes.specs.Fault.{fault}
@@ -15,7 +15,7 @@ use Rattle.boxes.specs.Promise.{book_pattern, book_record, FindsByBook}
 use Rattle.boxes.specs.declared.shelf.PatternEntry.{PatternEntry}
 use Rattle.boxes.specs.declared.shelf.RecordEntry.{RecordEntry}
 use Rattle.boxes.specs.Book.{Book}
-use Rattle.boxes.proofs.Parts.{at_read, Used, used_count, part_used, get_or_used, entries, length_entries, Placed, placed}
+use Rattle.boxes.proofs.Parts.{at_read, used_count, part_used, get_or_used, length_entries, placed}
 use Rattle.boxes.proofs.Single.{single}
 use Rattle.boxes.proofs.Lawful.{table_lawful, record_lawful}
 use Rattle.boxes.proofs.Kept.{Kept, rules_of, itself, pattern_written, record_written}

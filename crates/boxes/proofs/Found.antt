@@ -1,5 +1,5 @@
 -- What find answers, from where its pattern and record stand and from the reading that was noted.
-use Rattle.std.proofs.Common.{◌≡◌, ℕ, suc, ◌<◌, ◌≤◌, Bool, ◌⊎◌, List, [], ◌∷◌, ◌++◌, map, length, drop, sym, refl, ap, ◌∙◌, subst₂, inl, inr, arith}
+use Rattle.std.proofs.Common.{◌≡◌, ℕ, suc, ◌<◌, ◌≤◌, Bool, List, [], ◌∷◌, ◌++◌, map, length, drop, sym, refl, ap, ◌∙◌, subst₂, inl, inr, arith}
 use Rattle.record.specs.declared.index.Entry.{Entry}
 use Rattle.table.specs.Table.{Tab}
 use Rattle.table.specs.Marks.{picked, noted}

@@ -1,11 +1,10 @@
 -- No check both fails and passes, and none gives two faults.
-use Rattle.std.proofs.Common.{◌≡◌, ℕ, ◌+◌, ◌*◌, ◌≤◌, ◌⊎◌, List, [], ◌∷◌, ◌++◌, Ok, Err, Result, sym, refl, ap, ◌∙◌, subst, inl, inr, le_antisymm, arith}
+use Rattle.std.proofs.Common.{◌≡◌, ℕ, ◌+◌, ◌*◌, ◌≤◌, List, [], ◌∷◌, ◌++◌, Ok, Err, Result, sym, refl, ap, ◌∙◌, subst, inl, inr, le_antisymm, arith}
 use Rattle.record.specs.declared.fault.Fault.{Fault as RecordFault}
 use Rattle.record.proofs.Verdict.{one_verdict}
 use Rattle.table.specs.declared.fault.Fault.{Fault as TableFault}
 use Rattle.table.specs.Sets.{Extent}
 use Rattle.table.proofs.Outcomes.{one_check}
-use Rattle.table.specs.declared.rule.Rule.{Rule}
 use Rattle.boxes.specs.Check.{Check, when, unless, lifted, Fails, Passes, each, Answers}
 use Rattle.table.specs.declared.fault.Role.TheVariants.{Pattern}
 use Rattle.table.specs.declared.fault.Role.{Role}

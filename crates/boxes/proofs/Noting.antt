@@ -1,11 +1,11 @@
 -- Places at which a mark is noted, counted and written from the lowest up.
-use Rattle.std.proofs.Common.{◌≡◌, ℕ, zero, suc, ◌+◌, ◌-◌, ◌<◌, ◌≤◌, Bool, true, false, List, [], ◌∷◌, ◌++◌, map, length, get_or, take, drop, set, sym, refl, ap, ◌∙◌, subst, inl, inr, zero-add, add-one, arith, length-append, length-take-le}
+use Rattle.std.proofs.Common.{◌≡◌, ℕ, zero, suc, ◌+◌, ◌-◌, ◌<◌, ◌≤◌, Bool, true, false, List, [], ◌∷◌, ◌++◌, map, length, get_or, take, drop, set, sym, refl, ap, ◌∙◌, inl, inr, zero-add, add-one, arith, length-take-le}
 use Rattle.std.proofs.lemmas.List.{set_at, take_more, take-append-drop, append_assoc}
 use Rattle.std.proofs.lemmas.Bool.{cases_lt}
 use Rattle.record.specs.declared.index.Entry.{Entry}
 use Rattle.table.specs.Marks.{put, picked}
 use Rattle.boxes.specs.declared.shelf.Spot.{Spot}
-use Rattle.boxes.specs.Listing.{spot_of, spot_at, Written}
+use Rattle.boxes.specs.Listing.{spot_at, Written}
 
 module _ (test : ℕ → Bool) where
   -- one more place

@@ -1,5 +1,5 @@
 -- What the count of readings says of a record's bytes.
-use Rattle.std.proofs.Common.{◌≡◌, ℕ, zero, suc, ◌+◌, ◌*◌, ◌<◌, ◌≤◌, Bool, ◌⊎◌, List, length, sym, refl, ap, ◌∙◌, subst, inl, inr, arith}
+use Rattle.std.proofs.Common.{◌≡◌, ℕ, zero, suc, ◌<◌, ◌≤◌, Bool, List, length, sym, refl, ◌∙◌, subst, inl, inr, arith}
 use Rattle.std.proofs.lemmas.Bool.{cases_lt}
 use Rattle.record.specs.declared.index.Entry.{Entry}
 use Rattle.record.specs.Run.{run_at, Spans}
@@ -12,7 +12,6 @@ use Rattle.table.specs.Check.{SoundTable}
 use Rattle.table.specs.Calls.{Admitted, Refused}
 use Rattle.table.specs.Reading.{Single, Two, Counts}
 use Rattle.table.specs.Marks.{Listed}
-use Rattle.boxes.specs.declared.fault.Fault.{Fault}
 use Rattle.boxes.specs.declared.fault.Fault.TheVariants.{Table}
 use Rattle.boxes.specs.declared.fault.Cause.TheVariants.{NoReading, TwoReadings}
 use Rattle.boxes.specs.Fault.{fault}

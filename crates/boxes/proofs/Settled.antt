@@ -1,5 +1,5 @@
 -- The relations of the calls leave nothing open.
-use Rattle.std.proofs.Common.{◌≡◌, ℕ, ◌<◌, ◌≤◌, Bool, List, [], ◌∷◌, ◌++◌, length, drop, sym, refl, ap, ◌∙◌, arith}
+use Rattle.std.proofs.Common.{◌≡◌, ℕ, Bool, List, ◌++◌, length, drop, sym, refl, ap, ◌∙◌, arith}
 use Rattle.boxes.specs.Fault.{fault}
 use Rattle.table.specs.declared.fault.Role.TheVariants.{Form, Pattern}
 use Rattle.table.specs.declared.fault.Cause.TheVariants.{Double}

@@ -1,5 +1,5 @@
 -- Where no run that fits has two readings, a record that fits has one at most.
-use Rattle.std.proofs.Common.{◌≡◌, ℕ, Bool, List, sym, refl, ap, ◌∙◌, subst}
+use Rattle.std.proofs.Common.{◌≡◌, ℕ, Bool, List, subst}
 use Rattle.boxes.specs.Record.{Read, Alike, spots, spotted}
 use Rattle.table.specs.Table.{Tab}
 use Rattle.table.specs.Reading.{Twofold, Whole, Reads, same_reading}

@@ -1,5 +1,5 @@
 -- The nodes that a reading marks, by the places of an index and by the record's value.
-use Rattle.std.proofs.Common.{◌≡◌, ℕ, zero, suc, ◌+◌, ◌-◌, ◌<◌, ◌≤◌, Bool, true, false, List, [], ◌∷◌, ◌++◌, map, length, get_or, take as taken, Some, None, Option, sym, refl, ap, ◌∙◌, subst, ap₂, zero-add, arith, get_or-take}
+use Rattle.std.proofs.Common.{◌≡◌, ℕ, zero, suc, ◌+◌, ◌-◌, ◌<◌, ◌≤◌, Bool, true, false, List, [], ◌∷◌, ◌++◌, map, length, get_or, take as taken, Some, None, Option, sym, refl, ap, ◌∙◌, ap₂, zero-add, arith, get_or-take}
 use Rattle.record.proofs.Verdict.{one_verdict}
 use Rattle.boxes.proofs.Filing.{whole_of}
 use Rattle.std.specs.List.{slice_get}
@@ -14,7 +14,6 @@ use Rattle.table.specs.declared.rule.Rule.{Rule}
 use Rattle.table.specs.Reading.{Reading, stop, skip, take, Single}
 use Rattle.table.specs.Table.{Tab}
 use Rattle.table.specs.Marks.{carries, put, marked, picked, noted, Listed}
-use Rattle.boxes.specs.declared.shelf.Spot.{Spot}
 use Rattle.boxes.specs.Record.{Read, spotted, spots}
 use Rattle.boxes.specs.Listing.{blank, spot_of, spot_at}
 

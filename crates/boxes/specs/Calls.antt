@@ -12,7 +12,7 @@ use Rattle.table.specs.Reading.{Twofold}
 use Rattle.table.specs.Check.{SoundTable, FaultyTable}
 use Rattle.boxes.specs.declared.fault.Cause.TheVariants.{ShortShelf, NoRoom, NoFit, Unknown, NoReading, ShortList, TwoReadings}
 use Rattle.boxes.specs.declared.fault.Fault.{Fault}
-use Rattle.boxes.specs.declared.fault.Fault.TheVariants.{Record, Table, Boxes}
+use Rattle.boxes.specs.declared.fault.Fault.TheVariants.{Record, Table}
 use Rattle.boxes.specs.declared.shelf.PatternEntry.{PatternEntry}
 use Rattle.boxes.specs.declared.shelf.RecordEntry.{RecordEntry}
 use Rattle.boxes.specs.declared.shelf.Spot.{Spot}

@@ -1,10 +1,7 @@
 -- The refusals of a box's calls: number, layer and place of each.
 use Rattle.std.specs.Prelude.{ℕ}
-use Rattle.record.specs.declared.fault.Fault.{Fault as RecordFault}
 use Rattle.record.specs.Fault.{number as record_number}
-use Rattle.table.specs.declared.class_fault.ClassFault.{ClassFault}
 use Rattle.table.specs.ClassFault.{class_number}
-use Rattle.table.specs.declared.fault.Fault.{Fault as TableFault}
 use Rattle.table.specs.Fault.{number as table_number}
 use Rattle.boxes.specs.declared.fault.Cause.{Cause}
 use Rattle.boxes.specs.declared.fault.Cause.TheVariants.{ShortShelf, NoRoom, NoFit, Unknown, NoReading, ShortList, TwoReadings}

@@ -1,6 +1,6 @@
 -- The promise over histories.
 use Rattle.std.specs.Prelude.{◌≡◌, ℕ, ◌<◌, ◌≤◌, Bool, ◌⊎◌, ◌↔◌, List, [], ◌∷◌, ◌++◌, length, drop, Ok, Err, Result, slice_index_or}
-use Rattle.std.proofs.Math.Option.{Option, none, some}
+use Rattle.std.proofs.Math.Option.{some}
 use Rattle.record.specs.Limits.{max_nodes}
 use Rattle.table.specs.declared.fault.Role.TheVariants.{Pattern}
 use Rattle.table.specs.declared.fault.Cause.TheVariants.{Bounds, EmptyRule, ShortBuffer, Double}

@@ -1,4 +1,6 @@
 // Boxes: one form, the patterns admitted under it and the records filed under it, on a lent shelf.
+#![tactic(auto)]
+
 pub mod fault;
 pub mod limits;
 mod listing;

@@ -9,7 +9,7 @@ use Rattle.examine.specs.declared.fact.Sort.TheVariants.{Together, Poised, Apart
 use Rattle.examine.specs.declared.fact.Fact.{Fact}
 use Rattle.examine.specs.declared.line.Line.{Line}
 use Rattle.examine.specs.Facts.{together, poised, Says}
-use Rattle.examine.specs.Lines.{blank, line_at, Follows, Good, Spells}
+use Rattle.examine.specs.Lines.{blank, line_at, Follows, Good}
 use Rattle.examine.specs.Search.{Setting, State, slot, most, rest, is_apart, noted, count, told, Shows, Low, line_of, doubles, Known, Fine, Grown, On, Found, Due}
 use Rattle.examine.proofs.Slots.{slot_low, slot_same, most_few, noted_length, noted_keeps, noted_at, noted_or, count_most, count_room, count_noted, count_new}
 use Rattle.examine.proofs.Spelling.{spells_lasts, follows_lasts}

@@ -1,5 +1,5 @@
 -- Facts that nothing can be added to hold of every run with its readings.
-use Rattle.std.proofs.Common.{◌≡◌, ℕ, Bool, ◌⊎◌, sym, refl, ap, subst, ap₂, inl, inr}
+use Rattle.std.proofs.Common.{◌≡◌, ℕ, Bool, ◌⊎◌, sym, refl, subst, ap₂, inl, inr}
 use native.Mathlib.Decide.{ℕ_discrete}
 use Rattle.record.specs.Run.{Run, nil, node}
 use Rattle.table.specs.Sets.{Bit}

@@ -1,18 +1,18 @@
 -- Empty rules to what a line shows.
-use Rattle.std.proofs.Common.{◌≡◌, ℕ, ◌<◌, Bool, true, false, not, ◌&&◌, eqb, ◌⊎◌, length, get_or, is_err, Ok, Err, Result, sym, refl, ap, ◌∙◌, subst, subst₂, inl, inr, arith}
+use Rattle.std.proofs.Common.{◌≡◌, ℕ, ◌<◌, Bool, true, false, not, ◌&&◌, eqb, length, is_err, Ok, Err, Result, sym, refl, ap, ◌∙◌, subst, subst₂, inl, inr, arith}
 use Rattle.std.proofs.lemmas.Bool.{and_parts, and_from, eqb-true, eq-eqb, ne_eqb, true≢false}
 use Rattle.table.specs.declared.rule.Rule.{Rule}
 use Rattle.table.specs.declared.rule.Step.{Step}
 use Rattle.table.specs.declared.rule.Step.TheVariants.{Empty, Node}
-use Rattle.table.specs.Table.{Tab, At}
-use Rattle.table.specs.Reading.{Reading, stop, skip, take, Skips}
-use Rattle.examine.specs.declared.fact.Sort.TheVariants.{Together, Poised, Apart}
+use Rattle.table.specs.Table.{At}
+use Rattle.table.specs.Reading.{Reading, skip, Skips}
+use Rattle.examine.specs.declared.fact.Sort.TheVariants.{Together}
 use Rattle.examine.specs.declared.fact.Fact.{Fact}
 use Rattle.examine.specs.declared.line.Line.{Line}
 use Rattle.examine.specs.declared.line.LineStep.{LineStep}
 use Rattle.examine.specs.Facts.{together, poised, apart, Steady, Leads}
 use Rattle.examine.specs.Facts.Leads.{slips, slides, against, forks, both}
-use Rattle.examine.specs.Lines.{line_at, Spells}
+use Rattle.examine.specs.Lines.{line_at}
 use Rattle.examine.specs.Lines.Spells.{first as spells_first, second as spells_second, both as spells_both}
 use Rattle.examine.specs.Search.{Setting, State, slot, told, Shows, Low, line_of, Known, Fine, Grown, On, Went, Due, Used, LedBy, Forked, is_empty}
 use Rattle.examine.proofs.Rules.{at_one}

@@ -1,12 +1,11 @@
 -- Nodes of two facts.
-use Rattle.std.proofs.Common.{◌≡◌, ℕ, ◌<◌, Bool, true, false, ◌&&◌, eqb, ltb, ◌⊎◌, length, Some, None, Option, sym, refl, ap, ◌∙◌, subst, inl, inr, arith}
+use Rattle.std.proofs.Common.{◌≡◌, ℕ, ◌<◌, Bool, true, ◌&&◌, eqb, ltb, Some, None, sym, refl, ap, ◌∙◌, subst, inl, inr, arith}
 use Rattle.std.proofs.lemmas.Bool.{and_parts, and_from, eqb-true, ltb-true, true≢false}
 use Rattle.table.specs.declared.rule.Rule.{Rule}
-use Rattle.table.specs.declared.rule.Step.{Step}
 use Rattle.table.specs.declared.rule.Step.TheVariants.{Empty, Node as Take}
 use Rattle.table.specs.Class.{Kind, Meets}
 use Rattle.table.specs.Table.{Tab, At}
-use Rattle.table.specs.Reading.{Reading, stop, skip, take, Takes}
+use Rattle.table.specs.Reading.{Reading, take, Takes}
 use Rattle.table.specs.Check.{Named}
 use Rattle.examine.specs.declared.fact.Sort.{Sort}
 use Rattle.examine.specs.declared.fact.Sort.TheVariants.{Together, Poised, Apart}

@@ -1,8 +1,8 @@
 -- A rule number has one rule.
-use Rattle.std.proofs.Common.{◌≡◌, ℕ, ◌<◌, Bool, true, false, List, sym, refl, ap, ◌∙◌}
+use Rattle.std.proofs.Common.{◌≡◌, ℕ, Bool, List, sym, ap, ◌∙◌}
 use Rattle.std.proofs.lemmas.List.{get_or_default}
 use Rattle.table.specs.declared.rule.Rule.{Rule}
-use Rattle.table.specs.declared.rule.Step.TheVariants.{Empty, Node}
+use Rattle.table.specs.declared.rule.Step.TheVariants.{Node}
 use Rattle.table.specs.Table.{Tab, At}
 use Rattle.table.specs.Reading.{Skips, Takes}
 

@@ -1,7 +1,7 @@
 -- From the first lines to facts that nothing can be added to.
-use Rattle.std.proofs.Common.{◌≡◌, ℕ, ◌+◌, ◌<◌, ◌≤◌, Bool, true, false, ◌&&◌, eqb, ltb, ◌⊎◌, None, sym, refl, ap, ◌∙◌, subst, inl, inr, arith}
+use Rattle.std.proofs.Common.{◌≡◌, ℕ, ◌+◌, ◌<◌, ◌≤◌, true, ◌&&◌, eqb, ltb, None, refl, ap, inl, inr, arith}
 use Rattle.std.proofs.lemmas.Bool.{and_parts, and_from, eq-eqb, lt-ltb, cases_eq}
-use Rattle.table.specs.Sets.{bit, Bit}
+use Rattle.table.specs.Sets.{bit}
 use Rattle.table.specs.Table.{Tab}
 use Rattle.table.specs.Reading.{stop}
 use Rattle.examine.specs.declared.fact.Sort.TheVariants.{Poised}
@@ -9,8 +9,8 @@ use Rattle.examine.specs.declared.fact.Fact.{Fact}
 use Rattle.examine.specs.declared.line.Line.{Line}
 use Rattle.examine.specs.declared.line.LineStep.{LineStep}
 use Rattle.examine.specs.declared.line.LineStep.TheVariants.{Stop, First, Second, Both}
-use Rattle.examine.specs.declared.turn.Side.TheVariants.{Inside, After}
-use Rattle.examine.specs.Facts.{poised, Leads, Joins, Closed}
+use Rattle.examine.specs.declared.turn.Side.TheVariants.{Inside}
+use Rattle.examine.specs.Facts.{poised, Leads, Closed}
 use Rattle.examine.specs.Facts.Leads.{slips, slides, against, forks, both}
 use Rattle.examine.specs.Lines.Spells.{stops}
 use Rattle.examine.specs.Search.{Setting, State, slot, Low, line_of, Known, Fine, Grown, On, Due}

@@ -1,14 +1,14 @@
 -- The readings that a good line spells are readings of its run, and lines that are appended change none of them.
 use Rattle.std.proofs.Common.{◌≡◌, ℕ, ◌<◌, Bool, Some, None, Option, sym, refl, ap, ◌∙◌, subst, arith}
 use Rattle.record.specs.declared.run.Node.{Node as Seen}
-use Rattle.record.specs.Run.{Run, nil, node, Lower, run_at}
+use Rattle.record.specs.Run.{Run, Lower, run_at}
 use Rattle.record.proofs.Places.{run_none, run_some}
 use Rattle.table.specs.Table.{Tab}
-use Rattle.table.specs.Reading.{Reading, stop, skip, take, Takes, Reads}
+use Rattle.table.specs.Reading.{Reading, stop, take, Takes, Reads}
 use Rattle.examine.specs.declared.line.Line.{Line}
 use Rattle.examine.specs.declared.line.LineStep.{LineStep}
 use Rattle.examine.specs.declared.line.LineStep.TheVariants.{Stop, First, Second, Both, Node}
-use Rattle.examine.specs.Lines.{Names, Led, NodeLine, Follows, Good, Spells}
+use Rattle.examine.specs.Lines.{Names, NodeLine, Follows, Good, Spells}
 use Rattle.examine.specs.Lines.Spells.{stops, first, second, both, takes}
 
 -- places that show the same begin the same run

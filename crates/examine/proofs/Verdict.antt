@@ -1,15 +1,15 @@
 -- What a search that is over says.
-use Rattle.std.proofs.Common.{◌≡◌, ℕ, zero, suc, ◌+◌, ◌-◌, ◌<◌, ◌≤◌, min, Bool, true, false, not, ◌&&◌, ◌||◌, eqb, ◌⊎◌, List, length, get_or, Some, None, Ok, Err, Option, Result, sym, refl, ap, ◌∙◌, subst, inl, inr, arith, MatchResult}
+use Rattle.std.proofs.Common.{◌≡◌, ℕ, zero, suc, ◌+◌, ◌<◌, ◌≤◌, Bool, true, not, ◌&&◌, ◌||◌, eqb, List, length, get_or, Some, None, Ok, Err, Option, Result, sym, refl, ap, ◌∙◌, subst, inl, inr, arith, MatchResult}
 use native.Mathlib.Decide.{ℕ_discrete}
 use Rattle.std.proofs.lemmas.Bool.{and_parts, and_from, eq-eqb, ne_eqb, true≢false}
 use Rattle.record.specs.declared.run.Node.{Node as Seen}
-use Rattle.record.specs.Run.{Run, Lower, run_at}
+use Rattle.record.specs.Run.{run_at}
 use Rattle.table.specs.Sets.{bit, Bit}
 use Rattle.table.specs.Table.{Tab}
 use Rattle.table.specs.declared.fault.Role.{Role}
 use Rattle.table.specs.declared.fault.Role.TheVariants.{Form}
 use Rattle.table.specs.Check.{limit, SoundTable, Named, StateCount}
-use Rattle.table.specs.Reading.{Reading, Reads, Whole, Same, Fits, Two, Twofold}
+use Rattle.table.specs.Reading.{Reading, Reads, Whole, Twofold}
 use Rattle.examine.specs.declared.fact.Sort.{Sort}
 use Rattle.examine.specs.declared.fact.Sort.TheVariants.{Together, Poised, Apart}
 use Rattle.examine.specs.declared.fact.Fact.{Fact}
@@ -17,9 +17,9 @@ use Rattle.examine.specs.declared.line.Line.{Line}
 use Rattle.examine.specs.declared.line.LineStep.{LineStep}
 use Rattle.examine.specs.declared.line.LineStep.TheVariants.{Stop, First, Second, Both, Node}
 use Rattle.examine.specs.Facts.{together, apart, Says, Closed, Plain}
-use Rattle.examine.specs.Lines.{line_at, Follows, Good, Spells}
+use Rattle.examine.specs.Lines.{line_at, Follows, Good}
 use Rattle.examine.specs.Sheet.{lower_only, lowered, shown}
-use Rattle.examine.specs.Search.{Setting, State, Went, slot, most, is_apart, count, Shows, Bounded, doubles, Known, Fine, Found}
+use Rattle.examine.specs.Search.{Setting, State, Went, slot, most, is_apart, Shows, Bounded, Known, Fine, Found}
 use Rattle.examine.specs.Examine.{run_of, Shown}
 use Rattle.examine.proofs.Complete.{together as together_known, apart as apart_known}
 use Rattle.examine.proofs.Spelling.{spells_read}

@@ -1,9 +1,9 @@
 -- How far a search has come; no promise to a caller of the crate.
-use Rattle.std.specs.Prelude.{◌≡◌, ℕ, ◌<◌, ◌≤◌, Bool, true, ◌&&◌}
+use Rattle.std.specs.Prelude.{◌≡◌, ℕ, ◌<◌, Bool, true, ◌&&◌}
 use Rattle.table.specs.Sets.{bit}
 use Rattle.examine.specs.declared.fact.Fact.{Fact}
 use Rattle.examine.specs.declared.line.LineStep.{LineStep}
-use Rattle.examine.specs.declared.turn.Side.TheVariants.{Inside, After}
+use Rattle.examine.specs.declared.turn.Side.TheVariants.{After}
 use Rattle.examine.specs.Facts.{poised, Leads, Joins}
 use Rattle.examine.specs.Search.{Setting, State, line_of, Known, LedBy}
 use Rattle.examine.specs.Turns.{Crossed}

@@ -1,4 +1,4 @@
-ghost use Rattle.std.specs.Prelude.{◌≡◌, ℕ, ◌+◌, ◌*◌, ◌<◌, ◌≤◌, Bool, true, false, not, ◌&&◌, ◌||◌, length, ◌==◌};
+ghost use Rattle.std.specs.Prelude.{◌≡◌, ℕ, ◌*◌, ◌<◌, false, not, ◌&&◌, ◌==◌};
 ghost use Rattle.table.specs.Table.{tab, At};
 ghost use Rattle.table.specs.Reading.{Skips};
 ghost use Rattle.examine.specs.Facts.{Leads};

@@ -1,4 +1,4 @@
-ghost use Rattle.std.specs.Prelude.{◌≡◌, ℕ, ◌+◌, ◌*◌, ◌<◌, ◌≤◌, Bool, true, false, length, MatchResult, slice_index};
+ghost use Rattle.std.specs.Prelude.{◌≡◌, ℕ, ◌+◌, ◌*◌, ◌<◌, ◌≤◌, length, MatchResult, slice_index};
 ghost use Rattle.table.specs.Table.{tab};
 ghost use Rattle.table.specs.Check.{StateCount, SoundTable};
 ghost use Rattle.table.specs.Reading.{Twofold};

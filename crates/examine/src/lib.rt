@@ -1,4 +1,6 @@
 // Whether some record fits a form and has two readings under a pattern, and the sheet that shows one.
+#![tactic(auto)]
+
 mod claim;
 mod empties;
 pub mod examine;

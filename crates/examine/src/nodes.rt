@@ -1,7 +1,7 @@
-ghost use Rattle.std.specs.Prelude.{◌≡◌, ℕ, ◌+◌, ◌*◌, ◌<◌, ◌≤◌, Bool, true, false, length};
+ghost use Rattle.std.specs.Prelude.{◌≡◌, ℕ, ◌<◌};
 ghost use Rattle.examine.specs.Facts.{Makes};
 ghost use Rattle.examine.specs.Lines.{line_at};
-ghost use Rattle.examine.specs.Search.{setting, state, Known, Fine, Went, Used};
+ghost use Rattle.examine.specs.Search.{setting, state, Fine, Went, Used};
 ghost use Rattle.examine.specs.Turns.{inside_fact, after_fact, whole_fact, Taken, Met, Made, Crossed};
 
 use crate::fact::Sort;

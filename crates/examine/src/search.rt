@@ -1,7 +1,6 @@
-ghost use Rattle.std.specs.Prelude.{◌≡◌, ℕ, ◌+◌, ◌*◌, ◌<◌, ◌≤◌, Bool, true, false, ◌&&◌, length};
+ghost use Rattle.std.specs.Prelude.{◌≡◌, ℕ, ◌+◌, ◌<◌, ◌&&◌};
 ghost use Rattle.examine.specs.Facts.{Closed};
-ghost use Rattle.examine.specs.Search.{setting, state, Known, Fine, Went, Used, LedBy};
-ghost use Rattle.examine.specs.Turns.{Crossed};
+ghost use Rattle.examine.specs.Search.{setting, state, Known, Fine, Went, Used};
 ghost use Rattle.examine.specs.Frontiers.{all_final, Begun, Followed};
 
 use crate::fact::Sort;

@@ -1,5 +1,5 @@
 ghost use Rattle.std.specs.Prelude.{◌≡◌};
-ghost use Rattle.examine.specs.Turns.{arm, pairs, state_on, inside_fact, after_fact, whole_fact};
+ghost use Rattle.examine.specs.Turns.{arm, pairs, state_on, inside_fact, after_fact};
 
 use crate::fact::{Fact, Sort};
 

@@ -1,10 +1,9 @@
 -- A run that is not empty begins with a node.
-use Rattle.std.proofs.Common.{◌≡◌, ℕ, ◌+◌, ◌-◌, ◌<◌, ◌≤◌, List, length, sym, refl, ap, ◌∙◌, arith}
+use Rattle.std.proofs.Common.{◌≡◌, ℕ, ◌+◌, ◌<◌, ◌≤◌, List, length, sym, refl, ap, ◌∙◌, arith}
 use Rattle.record.specs.declared.parse.Head.{Head}
-use Rattle.record.specs.Nodes.{Nodes, nil, node, bytes_of, count, Fit}
-use Rattle.record.specs.Record.{inside_at, end_at}
+use Rattle.record.specs.Nodes.{Nodes, nil, node, bytes_of, count}
 use Rattle.record.specs.Index.{span, place}
-use Rattle.record.specs.Parse.{kind_at, Headed}
+use Rattle.record.specs.Parse.{Headed}
 use Rattle.record.specs.Fill.{Spelt}
 use Rattle.record.proofs.Injective.{node_length}
 use Rattle.record.proofs.Slices.{between_length}

@@ -1,11 +1,10 @@
 -- The steps of filling a list of entries.
-use Rattle.std.proofs.Common.{◌≡◌, ℕ, ◌+◌, ◌-◌, ◌<◌, ◌≤◌, List, [], ◌∷◌, ◌++◌, length, get_or, take, drop, set, sym, refl, ap, ◌∙◌, subst, ap₂, append_assoc, arith, length-append}
+use Rattle.std.proofs.Common.{◌≡◌, ℕ, ◌+◌, ◌-◌, ◌<◌, ◌≤◌, List, ◌∷◌, ◌++◌, length, get_or, take, drop, set, sym, refl, ap, ◌∙◌, ap₂, append_assoc, arith, length-append}
 use Rattle.std.proofs.lemmas.List.{length-take-le, take_at, drop_at, take-append-le, take-take, take-append-drop, drop_more, set_at}
-use Rattle.record.specs.declared.run.Node.{Node}
 use Rattle.record.specs.declared.index.Entry.{Entry}
 use Rattle.record.specs.declared.parse.Head.{Head}
 use Rattle.record.specs.declared.parse.Passed.{Passed}
-use Rattle.record.specs.Nodes.{Nodes, nil, node, bytes_of, count}
+use Rattle.record.specs.Nodes.{Nodes, nil, node, count}
 use Rattle.record.specs.Index.{span, place, entries, seen, lowered, IndexedAs}
 use Rattle.record.specs.Limits.{max_nodes}
 use Rattle.record.specs.Run.{run_at}

@@ -1,16 +1,16 @@
 -- The steps of seeking a node by its offset.
-use Rattle.std.proofs.Common.{◌≡◌, ℕ, ◌+◌, ◌-◌, ◌<◌, ◌≤◌, ◌⊎◌, List, length, sym, refl, ap, ◌∙◌, subst, inl, inr, arith}
+use Rattle.std.proofs.Common.{◌≡◌, ℕ, ◌+◌, ◌<◌, ◌≤◌, List, length, sym, ap, ◌∙◌, inl, inr, arith}
 use Rattle.record.specs.declared.parse.Head.{Head}
 use Rattle.record.specs.Numbers.{between}
 use Rattle.record.specs.Nodes.{Nodes, nil, node, bytes_of}
-use Rattle.record.specs.Record.{IsRecord, inside_at}
+use Rattle.record.specs.Record.{IsRecord}
 use Rattle.record.specs.Index.{span}
 use Rattle.record.specs.Parse.{Headed}
 use Rattle.record.specs.Fill.{Spelt}
-use Rattle.record.specs.Text.{Starts, Texted, Unstarted, Found, Seeking}
+use Rattle.record.specs.Text.{Starts, Unstarted, Found, Seeking}
 use Rattle.record.proofs.Injective.{node_length}
 use Rattle.record.proofs.Slices.{between_all}
-use Rattle.record.proofs.Begins.{Begins, begins, spelt_length, empty_none, node_room}
+use Rattle.record.proofs.Begins.{Begins, begins, empty_none, node_room}
 
 -- a node starts within its run
 pub starts_in : (n : Nodes) (base o : ℕ) (s : List ℕ) → Starts base n o s → (base ≤ o) × (o < base + length (bytes_of n))

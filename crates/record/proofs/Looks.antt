@@ -1,13 +1,11 @@
 -- What a place of a list up to a top shows.
-use Rattle.std.proofs.Common.{◌≡◌, ℕ, zero, suc, ◌+◌, ◌-◌, ◌<◌, ◌≤◌, min, true, false, cond, ◌&&◌, ltb, List, length, get_or, take, Some, None, Option, sym, refl, ap, ◌∙◌, arith, length-take, get_or-take}
+use Rattle.std.proofs.Common.{◌≡◌, ℕ, zero, suc, ◌-◌, ◌<◌, ◌≤◌, List, length, get_or, take, Some, None, sym, refl, ap, ◌∙◌, arith, get_or-take}
 use Rattle.std.proofs.lemmas.Bool.Decides.{nat_tests}
-use Rattle.std.specs.List.{slice_get}
 use Rattle.std.proofs.lemmas.Option.{slice_get-get_or, slice_get_past}
 use Rattle.std.proofs.lemmas.List.{length-take-le}
-use Rattle.record.specs.declared.run.Node.{Node}
 use Rattle.record.specs.declared.index.Entry.{Entry}
 use Rattle.record.specs.Run.{Places}
-use Rattle.record.specs.Index.{lower_only, seen}
+use Rattle.record.specs.Index.{lower_only}
 use Rattle.record.specs.Index.{lowered, shown}
 use Rattle.record.proofs.Seen.{seen_lower}
 

@@ -6,7 +6,6 @@ use Rattle.record.specs.Numbers.{between}
 use Rattle.record.specs.Nodes.{Nodes, nil, node, bytes_of, count, Fit}
 use Rattle.record.specs.declared.fault.Flaw.{Flaw}
 use Rattle.record.specs.declared.fault.Flaw.TheVariants.{TooDeep, TooMany, CutShort, TextTooLong}
-use Rattle.record.specs.declared.fault.Cause.{Cause}
 use Rattle.record.specs.declared.fault.Cause.TheVariants.{Flawed}
 use Rattle.record.specs.declared.fault.Fault.{Fault}
 use Rattle.record.specs.Fault.{number}

@@ -1,11 +1,11 @@
 -- What index and text promise leaves one answer.
-use Rattle.std.proofs.Common.{◌≡◌, ℕ, ◌+◌, ◌<◌, ◌≤◌, ◌⊎◌, List, length, take, Ok, Err, Result, sym, refl, ap, ◌∙◌, subst, inl, inr, arith}
+use Rattle.std.proofs.Common.{◌≡◌, ℕ, ◌+◌, List, length, take, Ok, Err, Result, sym, ap, ◌∙◌, subst, inl, inr, arith}
 use Rattle.record.specs.declared.index.Entry.{Entry}
 use Rattle.record.specs.declared.fault.Fault.{Fault}
 use Rattle.record.specs.Nodes.{Nodes, nil, node, count}
 use Rattle.record.specs.Record.{IsRecord}
 use Rattle.record.specs.Index.{span, entries, IndexedAs, Unindexed, Indexes}
-use Rattle.record.specs.Text.{Starts, Texted, Untexted}
+use Rattle.record.specs.Text.{Starts, Untexted}
 use Rattle.record.specs.Laws.{OneOutcome}
 use Rattle.record.proofs.Finds.{starts_in}
 use Rattle.record.proofs.Verdict.{one_verdict}

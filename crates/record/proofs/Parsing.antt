@@ -1,5 +1,5 @@
 -- The steps of parsing a run.
-use Rattle.std.proofs.Common.{◌≡◌, ℕ, zero, suc, ◌+◌, ◌<◌, ◌≤◌, List, [], ◌∷◌, length, get_or, sym, refl, ap, ◌∙◌, subst, arith}
+use Rattle.std.proofs.Common.{ℕ, suc, ◌+◌, ◌<◌, ◌≤◌, List, [], ◌∷◌, length, get_or, sym, refl, ◌∙◌, subst, arith}
 use Rattle.record.specs.declared.parse.Head.{Head}
 use Rattle.record.specs.declared.parse.Passed.{Passed}
 use Rattle.record.specs.declared.fault.Flaw.{Flaw}
@@ -7,8 +7,8 @@ use Rattle.record.specs.Fault.{flawed}
 use Rattle.record.specs.Limits.{max_bytes}
 use Rattle.record.specs.Numbers.{Bytes}
 use Rattle.record.specs.Nodes.{Nodes, nil, node, bytes_of, count}
-use Rattle.record.specs.Record.{inside_at, end_at, Called, Sound, Holds, Due, first, inside, after, Faulty}
-use Rattle.record.specs.Parse.{kind_at, Headed, Opened, Ready, RunParsed, NodeParsed, Recorded}
+use Rattle.record.specs.Record.{inside_at, end_at, Called, Sound, Holds, first, inside, after, Faulty}
+use Rattle.record.specs.Parse.{kind_at, Opened, Ready, RunParsed, NodeParsed, Recorded}
 use Rattle.record.proofs.Slices.{between_none, between_all}
 use Rattle.record.proofs.Opens.{body_at}
 use Rattle.record.proofs.Total.{made}

@@ -1,15 +1,11 @@
 -- What the functions that fill in an index promise one another.
-use Rattle.std.specs.Prelude.{◌≡◌, ℕ, ◌+◌, ◌<◌, ◌≤◌, min, ◌⊎◌, List, ◌∷◌, ◌++◌, length, take, drop, Option}
-use Rattle.record.specs.declared.run.Node.{Node}
+use Rattle.std.specs.Prelude.{◌≡◌, ℕ, ◌+◌, ◌≤◌, List, ◌∷◌, ◌++◌, length, take, drop}
 use Rattle.record.specs.declared.index.Entry.{Entry}
 use Rattle.record.specs.declared.parse.Passed.{Passed}
-use Rattle.record.specs.declared.fault.Fault.{Fault}
-use Rattle.record.specs.Limits.{max_bytes, max_nodes}
+use Rattle.record.specs.Limits.{max_bytes}
 use Rattle.record.specs.Numbers.{between}
-use Rattle.record.specs.Nodes.{Nodes, nil, node, bytes_of, count, Fit}
-use Rattle.record.specs.Record.{IsRecord, Refused}
-use Rattle.record.specs.Run.{run_at}
-use Rattle.record.specs.Index.{erase, span, place, entries, seen}
+use Rattle.record.specs.Nodes.{Nodes, bytes_of, count, Fit}
+use Rattle.record.specs.Index.{span, place, entries}
 
 -- the bytes from one offset to another are those of a run
 pub record Spelt (bytes : List ℕ) (from to : ℕ) (n : Nodes) : Type 0 where

@@ -1,4 +1,4 @@
-ghost use Rattle.std.specs.Prelude.{◌≡◌, ℕ, ◌+◌, ◌<◌, ◌≤◌, List, length};
+ghost use Rattle.std.specs.Prelude.{◌≡◌, ℕ, ◌+◌, ◌<◌, List, length};
 ghost use Rattle.record.specs.Nodes.{Nodes, node, count};
 ghost use Rattle.record.specs.Fill.{Spelt, Fillable, Filled, NodeFilled};
 
@@ -7,7 +7,7 @@ use crate::parse::{Passed, open};
 use crate::run::Node;
 
 // Fills in the entries of a run whose first node has the place `top`, and answers the places left below.
-#[cycle(fill_node_fill_run)]
+#[cycle(filling)]
 pub(crate) fn fill_run(bytes: &[u8], list: &mut [Entry], at: usize, end: usize, top: usize) -> usize
     requires { Fillable bytes.now at end top (length list.old) }
     ensures { (base : ℕ) (n : Nodes) → Spelt bytes.now at end n → base + count n ≡ top → Filled list.old list.new base at n top result }
@@ -20,7 +20,7 @@ pub(crate) fn fill_run(bytes: &[u8], list: &mut [Entry], at: usize, end: usize, 
 }
 
 // Fills in the entries of one node and its inside.
-#[cycle(fill_node_fill_run)]
+#[cycle(filling)]
 fn fill_node(bytes: &[u8], list: &mut [Entry], at: usize, end: usize, top: usize) -> Passed
     requires fillable { Fillable bytes.now at end top (length list.old) }
     requires at_lt_end { at < end }

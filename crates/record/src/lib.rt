@@ -1,4 +1,6 @@
 // Records in bytes: what they are, their index, the text of a node, and runs of nodes behind one interface.
+#![tactic(auto)]
+
 pub mod fault;
 mod fill;
 pub mod index;

@@ -1,4 +1,4 @@
-ghost use Rattle.std.specs.Prelude.{◌≡◌, ℕ, ◌+◌, ◌<◌, ◌≤◌, length, MatchResult};
+ghost use Rattle.std.specs.Prelude.{◌≡◌, ◌+◌, ◌<◌, ◌≤◌, length, MatchResult};
 ghost use Rattle.record.specs.Limits.{max_bytes};
 ghost use Rattle.record.specs.Numbers.{value, between};
 ghost use Rattle.record.specs.Record.{Called, Refused, Faulty};
@@ -85,7 +85,7 @@ fn sound_head(
 }
 
 // Parses the nodes of a run in turn, and answers how many nodes there are by its end.
-#[cycle(parse_node_parse_run)]
+#[cycle(parsing)]
 fn parse_run(
     bytes: &[u8],
     at: usize,
@@ -104,7 +104,7 @@ fn parse_run(
 }
 
 // Parses one node and its inside.
-#[cycle(parse_node_parse_run)]
+#[cycle(parsing)]
 fn parse_node(
     bytes: &[u8],
     at: usize,

@@ -11,7 +11,7 @@ use Rattle.table.specs.Sets.{bit, Bit, Extent}
 use Rattle.table.specs.Table.{Tab, At}
 use Rattle.table.specs.Reading.{Counts}
 use Rattle.table.specs.Check.{StateCount}
-use Rattle.table.specs.Counting.{Sets, First, ends, slips, enters, Opens, Forks, Pair, Told, Grounded, Base, Settling, Exact, Grows, takes_step, touches_step, slips_step}
+use Rattle.table.specs.Counting.{Sets, First, ends, slips, enters, Opens, Forks, Pair, Grounded, Base, Settling, Exact, Grows, takes_step, touches_step, slips_step}
 use Rattle.table.specs.Telling.{Tells}
 use Rattle.table.proofs.Bits.{bit_of_or, bit_power, no_bit, below_power, top_bit}
 use Rattle.table.proofs.Rules.{at_some}

@@ -1,5 +1,5 @@
 -- The states that readings pass through, and the rules that they use.
-use Rattle.std.specs.Prelude.{◌≡◌, ℕ, ◌+◌, ◌*◌, Bool, true, false, ◌||◌, ◌↔◌, List, set, Some, Option, ◌==◌, slice_index, slice_set}
+use Rattle.std.specs.Prelude.{◌≡◌, ℕ, ◌+◌, ◌*◌, Bool, true, false, ◌||◌, ◌↔◌, List, Some, Option, ◌==◌, slice_index, slice_set}
 use Rattle.record.specs.declared.run.Node.{Node}
 use Rattle.table.specs.declared.rule.Rule.{Rule}
 use Rattle.table.specs.declared.rule.Step.{Step}

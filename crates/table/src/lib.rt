@@ -1,4 +1,6 @@
 // Tables of states and rules, the records that fit a form, and the readings of a record under a pattern.
+#![tactic(auto)]
+
 pub mod check;
 pub mod class;
 pub mod class_fault;

@@ -1,5 +1,5 @@
 // Scratch: three numbers for each place of a run.
-ghost use Rattle.std.specs.Prelude.{◌≡◌, ◌+◌, ◌*◌, ◌<◌, length, set, slice_index, slice_set};
+ghost use Rattle.std.specs.Prelude.{◌≡◌, ◌+◌, ◌*◌, ◌<◌, length, slice_index, slice_set};
 ghost use Rattle.table.specs.Limits.{per_place};
 ghost use Rattle.table.specs.Scratch.{Measures};
 

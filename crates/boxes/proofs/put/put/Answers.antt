@@ -10,4 +10,4 @@ put_is {A} a xs ys zs e =
     λ i. take a xs ++ (e i ++ d i)
 
 pub returns : goal.returns
-returns g c = put_is c.args.at c.args.list.now c.copy-from-slice.new.self c.args.new.now c.copy-from-slice.ensures.after
+returns g c = put_is c.args.at c.args.list.now c.copy_from_slice.new.self c.args.new.now c.copy_from_slice.ensures.after

@@ -1,16 +1,16 @@
-use Rattle.std.proofs.Common.{◌≡◌, ℕ, ◌*◌, ◌<◌, ◌≤◌, arith, rules}
+use Rattle.std.proofs.Common.{◌*◌, arith, rules}
 use Rattle.table.specs.declared.fault.Role.TheVariants.{Form, Pattern}
 use Rattle.table.specs.Table.{tab}
-use Rattle.examine.specs.Search.{Setting, state, Bounded}
+use Rattle.examine.specs.Search.{Setting, state}
 use Rattle.examine.proofs.Slots.{most_few, times_few}
 use Rattle.examine.proofs.Verdict.{fine_first, verdict_of, lent_verdict, sound_plain, count_few}
 use Rattle.examine.proofs.examine.decide.Goals as goal
 
-pub overflow-mul-forms : goal.overflow-mul-forms
-overflow-mul-forms g c = let h = count_few Form (tab c.args.form) c.args.forms c.requires.form c.requires.forms in omega arith
+pub overflow_mul-forms : goal.overflow_mul-forms
+overflow_mul-forms g c = let h = count_few Form (tab c.args.form) c.args.forms c.requires.form c.requires.forms in omega arith
 
-pub overflow-mul-forms-2 : goal.overflow-mul-forms-2
-overflow-mul-forms-2 g c =
+pub overflow_mul-forms-2 : goal.overflow_mul-forms-2
+overflow_mul-forms-2 g c =
     let h = count_few Form (tab c.args.form) c.args.forms c.requires.form c.requires.forms in
     let k = count_few Pattern (tab c.args.pattern) c.args.states c.requires.pattern c.requires.states in
     let m = times_few (3 * c.args.forms) 96 c.args.states (omega arith) k in

@@ -3,4 +3,4 @@ use Rattle.record.proofs.Numbers.{half_at}
 use Rattle.record.proofs.parse.half.Goals as goal
 
 pub returns : goal.returns
-returns c = let e = half_at c.args.bytes.now c.args.at c.requires in let f = c.from-le-bytes.ensures in omega arith
+returns c = let e = half_at c.args.bytes.now c.args.at c.requires in let f = c.from_le_bytes.ensures in omega arith

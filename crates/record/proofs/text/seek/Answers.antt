@@ -1,4 +1,4 @@
-use Rattle.std.proofs.Common.{arith, rules}
+use Rattle.std.proofs.Common.{arith}
 use Rattle.record.proofs.Finds.{seek_first, steps, unstarted}
 use Rattle.record.proofs.text.seek.Goals as goal
 
@@ -6,7 +6,7 @@ pub loop-at-init : goal.loop-at-init
 loop-at-init c = seek_first c.args.bytes.now c.args.offset c.requires
 
 pub open-head-requires : goal.open-head-requires
-open-head-requires c = ((steps c.loop-at-test.true c.loop-at.invariant).head_fits, c.requires.size)
+open-head-requires c = (record { at_in_bounds = (steps c.loop-at-test.true c.loop-at.invariant).head_fits; bytes_len_bound = c.requires.size })
 
 pub returns-then-offset-at : goal.returns-then-offset-at
 returns-then-offset-at c = (steps c.loop-at-test.true c.loop-at.invariant).found c.open-head.ensures c.if-offset-at.true

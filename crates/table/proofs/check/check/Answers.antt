@@ -5,8 +5,8 @@ use Rattle.table.proofs.Checking.{ends_extent, beyond, within}
 use Rattle.table.proofs.Rules.{at_more, at_read}
 use Rattle.table.proofs.check.check.Goals as goal
 
-pub returns-then-extent-states-of : goal.returns-then-extent-states-of
-returns-then-extent-states-of g c =
+pub returns-then-extent-states_of : goal.returns-then-extent-states_of
+returns-then-extent-states_of g c =
     let T = tab c.args.table in
     inr (inl (omega arith, beyond (Ends T) c.extent.result (limit c.args.role) (ends_extent T c.extent.result c.extent.ensures) (omega arith), refl))
 
@@ -28,7 +28,7 @@ returns-in-Some g c =
 pub loop-i-preserved : goal.loop-i-preserved
 loop-i-preserved g c =
     at_more (SoundRule c.args.role) c.args.table.rules.now c.loop-i.i _
-    (at_read c.args.table.rules.now c.loop-i.i c.index-table-i.result (omega arith) c.index-table-i.is) c.in-default.ensures c.loop-i.invariant
+    (at_read c.args.table.rules.now c.loop-i.i c.index-table-i.result (omega arith) c.index-table-i.is) c.in_default.ensures c.loop-i.invariant
 
 pub returns : goal.returns
 returns g c =

@@ -19,10 +19,10 @@ returns g c =
     let T = tab c.args.pattern in
     let seen = g.R.Runs.seen c.args.run.now in
     let top = c.args.top in
-    let S = sets c.counted-at.result in
+    let S = sets c.counted_at.result in
     record {
       counts = counted K T (run_at seen top) S
-          (exact_agree K T (run_at seen top) (sets_at c.loop-place.scratch top) S (ap bit (sym c.counted-at.ensures.some)) (ap bit (sym c.counted-at.ensures.many))
+          (exact_agree K T (run_at seen top) (sets_at c.loop-place.scratch top) S (ap bit (sym c.counted_at.ensures.some)) (ap bit (sym c.counted_at.ensures.many))
           (c.loop-place.invariant top (omega arith)))
           c.answer.result c.answer.ensures;
       filled = λ p h. c.loop-place.invariant p (omega arith);

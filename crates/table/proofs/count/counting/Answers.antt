@@ -1,18 +1,18 @@
 use Rattle.std.proofs.Common.{Some, None, sym, refl, ◌∙◌, arith}
 use Rattle.table.specs.Sets.{bit}
 use Rattle.table.specs.Table.{tab}
-use Rattle.table.specs.Counting.{Sets, sets}
+use Rattle.table.specs.Counting.{sets}
 use Rattle.table.proofs.Bits.{no_bit}
 use Rattle.table.proofs.Firsts.{end_base}
 use Rattle.table.proofs.Rounds.{pairset}
 use Rattle.table.proofs.Filling.{exact_none, exact_some}
 use Rattle.table.proofs.count.counting.Goals as goal
 
-pub counted-at-inside-requires : goal.counted-at-inside-requires
-counted-at-inside-requires g c = let l = c.requires.lower c.args.place c.in-Some.node (sym c.look.ensures ∙ c.in-Some.is) in omega arith
+pub counted_at-inside-requires : goal.counted_at-inside-requires
+counted_at-inside-requires g c = let l = c.requires.lower c.args.place c.in-Some.node (sym c.look.ensures ∙ c.in-Some.is) in omega arith
 
-pub counted-at-after-requires : goal.counted-at-after-requires
-counted-at-after-requires g c = let l = c.requires.lower c.args.place c.in-Some.node (sym c.look.ensures ∙ c.in-Some.is) in omega arith
+pub counted_at-after-requires : goal.counted_at-after-requires
+counted_at-after-requires g c = let l = c.requires.lower c.args.place c.in-Some.node (sym c.look.ensures ∙ c.in-Some.is) in omega arith
 
 pub returns-in-None : goal.returns-in-None
 returns-in-None g c =
@@ -26,10 +26,10 @@ pub returns-in-Some : goal.returns-in-Some
 returns-in-Some g c =
     let K = g.C.Class.kinds in
     let T = tab c.args.pattern in
-    let i = sets c.counted-at-inside.result in
-    let a = sets c.counted-at-after.result in
+    let i = sets c.counted_at-inside.result in
+    let a = sets c.counted_at-after.result in
     exact_some K T (g.R.Runs.seen c.args.run.now) c.requires.lower c.args.place c.in-Some.node i a (sets c.settle-in-Some.result) c.args.scratch.now
     (sym c.look.ensures ∙ c.in-Some.is) c.requires.filled
-    (λ j. record { some = bit (sym c.counted-at-inside.ensures.some j); many = bit (sym c.counted-at-inside.ensures.many j) })
-    (λ j. record { some = bit (sym c.counted-at-after.ensures.some j); many = bit (sym c.counted-at-after.ensures.many j) })
+    (λ j. record { some = bit (sym c.counted_at-inside.ensures.some j); many = bit (sym c.counted_at-inside.ensures.many j) })
+    (λ j. record { some = bit (sym c.counted_at-after.ensures.some j); many = bit (sym c.counted_at-after.ensures.many j) })
     (c.settle-in-Some.ensures (Some c.in-Some.node.kind) i a c.node_base.ensures)

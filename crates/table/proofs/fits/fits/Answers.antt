@@ -13,8 +13,8 @@ use Rattle.table.proofs.fits.fits.Goals as goal
 pub fitting-requires : goal.fitting-requires
 fitting-requires g c =
     let T = tab c.args.form in
-    let s = c.in-ok-check.ensures in
-    let r = c.in-ok-top.ensures in
+    let s = c.in_ok-check.ensures in
+    let r = c.in_ok-top.ensures in
     record {
       bounded = sound_bounded Form T s;
       plain = form_plain T s;
@@ -25,7 +25,7 @@ fitting-requires g c =
 
 pub loop-place-preserved : goal.loop-place-preserved
 loop-place-preserved g c =
-    let r = c.in-ok-top.ensures in
+    let r = c.in_ok-top.ensures in
     fitted_more g.C.Class.kinds (tab c.args.form) (g.R.Runs.seen c.args.run.now) r.places.lower c.loop-place.scratch c.loop-place.place
     c.fitting.result (omega (arith, r.is, r.room)) c.loop-place.invariant c.fitting.ensures
 
@@ -34,11 +34,11 @@ returns g c =
     let K = g.C.Class.kinds in
     let T = tab c.args.form in
     let seen = g.R.Runs.seen c.args.run.now in
-    let r = c.in-ok-top.ensures in
-    let top = c.in-ok-top.top in
-    let m = c.some-at.result in
+    let r = c.in_ok-top.ensures in
+    let top = c.in_ok-top.top in
+    let m = c.some_at.result in
     let x : ExactSome K T (run_at seen top) (bit m) =
-    subst (λ z. ExactSome K T (run_at seen top) (bit z)) (sym c.some-at.ensures) (c.loop-place.invariant top (omega arith)) in (
-      record { table = c.in-ok-check.ensures; room = r.room },
+    subst (λ z. ExactSome K T (run_at seen top) (bit z)) (sym c.some_at.ensures) (c.loop-place.invariant top (omega arith)) in (
+      record { table = c.in_ok-check.ensures; room = r.room },
       subst (λ p. (not (eqb (bit_and c.args.form.starts m) 0) ≡ true) ↔ Fits K T (run_at seen p)) r.is (fits_answered K T (run_at seen top) m x),
     )

@@ -13,16 +13,16 @@ loop-place-init g c =
     let top = c.args.top in (
       omega arith,
       λ spans.
-          subst (LitAbove K T seen top top) (sym c.set-enter.ensures)
+          subst (LitAbove K T seen top top) (sym c.set_enter.ensures)
           (lit_none K T seen c.requires.roomy.places.lower top c.args.scratch.now (omega (arith, c.requires.roomy.is, c.requires.roomy.room)) c.requires.filled),
     )
 
-pub list-place-requires : goal.list-place-requires
-list-place-requires g c =
+pub list_place-requires : goal.list_place-requires
+list_place-requires g c =
     record {
       bounded = c.requires.bounded;
       lower = c.requires.roomy.places.lower;
-      room = omega (arith, c.requires.roomy.is, c.requires.roomy.room, c.set-enter.auto.scratch, c.loop-place.auto.scratch, c.loop-place.invariant.0);
+      room = omega (arith, c.requires.roomy.is, c.requires.roomy.room, c.set_enter.auto.scratch, c.loop-place.auto.scratch, c.loop-place.invariant.0);
     }
 
 pub loop-place-preserved : goal.loop-place-preserved
@@ -33,12 +33,12 @@ loop-place-preserved g c =
     let top = c.args.top in
     let p = c.loop-place.place in
     let low = c.loop-place.invariant.0 in
-    let room : per_place * top + 2 < length c.loop-place.scratch = omega (arith, c.requires.roomy.is, c.requires.roomy.room, c.set-enter.auto.scratch, c.loop-place.auto.scratch) in (
+    let room : per_place * top + 2 < length c.loop-place.scratch = omega (arith, c.requires.roomy.is, c.requires.roomy.room, c.set_enter.auto.scratch, c.loop-place.auto.scratch) in (
       omega arith,
       λ spans.
           let n = spans_seen seen c.requires.roomy.places.lower spans p c.loop-place-test.true (omega arith) in
-          lit_more K T seen c.requires.roomy.places.lower top p n.0 c.loop-place.scratch c.list-place.new.scratch spans c.loop-place-test.true low n.1 room
-          (c.list-place.ensures n.0 n.1) (c.loop-place.invariant.1 spans),
+          lit_more K T seen c.requires.roomy.places.lower top p n.0 c.loop-place.scratch c.list_place.new.scratch spans c.loop-place-test.true low n.1 room
+          (c.list_place.ensures n.0 n.1) (c.loop-place.invariant.1 spans),
     )
 
 pub returns : goal.returns

@@ -9,13 +9,13 @@ use Rattle.table.proofs.marks.marks.Goals as goal
 
 pub count-counted-requires : goal.count-counted-requires
 count-counted-requires g c =
-    record { bounded = sound_bounded Pattern (tab c.args.pattern) c.in-ok-check.ensures; roomy = c.in-ok-top.ensures }
+    record { bounded = sound_bounded Pattern (tab c.args.pattern) c.in_ok-check.ensures; roomy = c.in_ok-top.ensures }
 
 pub list-requires : goal.list-requires
 list-requires g c =
-    let r = c.in-ok-top.ensures in
+    let r = c.in_ok-top.ensures in
     record {
-      bounded = sound_bounded Pattern (tab c.args.pattern) c.in-ok-check.ensures;
+      bounded = sound_bounded Pattern (tab c.args.pattern) c.in_ok-check.ensures;
       roomy = record { is = r.is; room = omega (arith, r.room, c.count-counted.auto.scratch); places = r.places };
       filled = c.count-counted.ensures.filled;
     }
@@ -25,8 +25,8 @@ returns-then-counted-eq1 g c =
     let K = g.C.Class.kinds in
     let T = tab c.args.pattern in
     let seen = g.R.Runs.seen c.args.run.now in
-    let r = c.in-ok-top.ensures in (
-      record { table = c.in-ok-check.ensures; room = r.room },
+    let r = c.in_ok-top.ensures in (
+      record { table = c.in_ok-check.ensures; room = r.room },
       subst (λ p. Counts K T (run_at seen p) c.count-counted.result) r.is c.count-counted.ensures.counts,
       λ one. subst (λ p. Spans seen 0 p p → Listed K T seen p c.list.new.scratch) r.is c.list.ensures,
     )

@@ -7,12 +7,12 @@ returns g c =
     let held = c.args.self.held in
     let rules = c.args.pattern.rules.now in
     record {
-      same-rules = refl;
-      same-patterns = refl;
-      same-records = refl;
+      same_rules = refl;
+      same_patterns = refl;
+      same_records = refl;
       same_bytes = refl;
       admits = (
-        c.in-default.ensures,
+        c.in_default.ensures,
         λ i. record {
           box = record {
             rules = held.rules + length rules;
@@ -26,7 +26,7 @@ returns g c =
           shelf = record {
             rules = c.put.ensures i;
             patterns = set_written c.args.shelf.now.patterns.now held.patterns
-                (record { first = held.rules; count = length rules; starts = c.args.pattern.starts; finals = c.args.pattern.finals }) (room_left _ _ _ c.in-default.ensures.1.1.1.1.0.1.0) i;
+                (record { first = held.rules; count = length rules; starts = c.args.pattern.starts; finals = c.args.pattern.finals }) (room_left _ _ _ c.in_default.ensures.1.1.1.1.0.1.0) i;
             records = c.args.shelf.now.records.now;
             bytes = c.args.shelf.now.bytes.now;
           };

@@ -5,28 +5,28 @@ use Rattle.examine.proofs.Slots.{most_few, times_few}
 use Rattle.examine.proofs.Verdict.{count_few}
 use Rattle.boxes.proofs.stage.admit.needed.Goals as goal
 
-pub overflow-mul-result : goal.overflow-mul-result
-overflow-mul-result g c =
-    let h = count_few Form (tab c.args.form) c.state-count-forms.result c.requires.form c.state-count-forms.ensures in
+pub overflow_mul-result : goal.overflow_mul-result
+overflow_mul-result g c =
+    let h = count_few Form (tab c.args.form) c.state_count-forms.result c.requires.form c.state_count-forms.ensures in
     omega arith
 
-pub overflow-mul-result-2 : goal.overflow-mul-result-2
-overflow-mul-result-2 g c =
-    let h = count_few Form (tab c.args.form) c.state-count-forms.result c.requires.form c.state-count-forms.ensures in
-    let k = count_few Pattern (tab c.args.pattern) c.state-count-states.result c.requires.pattern c.state-count-states.ensures in
-    let m = times_few (3 * c.state-count-forms.result) 96 c.state-count-states.result (omega arith) k in
+pub overflow_mul-result-2 : goal.overflow_mul-result-2
+overflow_mul-result-2 g c =
+    let h = count_few Form (tab c.args.form) c.state_count-forms.result c.requires.form c.state_count-forms.ensures in
+    let k = count_few Pattern (tab c.args.pattern) c.state_count-states.result c.requires.pattern c.state_count-states.ensures in
+    let m = times_few (3 * c.state_count-forms.result) 96 c.state_count-states.result (omega arith) k in
     omega arith
 
-pub overflow-mul-result-3 : goal.overflow-mul-result-3
-overflow-mul-result-3 g c =
-    let h = count_few Form (tab c.args.form) c.state-count-forms.result c.requires.form c.state-count-forms.ensures in
-    let k = count_few Pattern (tab c.args.pattern) c.state-count-states.result c.requires.pattern c.state-count-states.ensures in
-    let m = most_few c.state-count-forms.result c.state-count-states.result h k in
+pub overflow_mul-result-3 : goal.overflow_mul-result-3
+overflow_mul-result-3 g c =
+    let h = count_few Form (tab c.args.form) c.state_count-forms.result c.requires.form c.state_count-forms.ensures in
+    let k = count_few Pattern (tab c.args.pattern) c.state_count-states.result c.requires.pattern c.state_count-states.ensures in
+    let m = most_few c.state_count-forms.result c.state_count-states.result h k in
     omega arith
 
-pub overflow-add-result : goal.overflow-add-result
-overflow-add-result g c =
-    let h = count_few Form (tab c.args.form) c.state-count-forms.result c.requires.form c.state-count-forms.ensures in
-    let k = count_few Pattern (tab c.args.pattern) c.state-count-states.result c.requires.pattern c.state-count-states.ensures in
-    let m = most_few c.state-count-forms.result c.state-count-states.result h k in
+pub overflow_add-result : goal.overflow_add-result
+overflow_add-result g c =
+    let h = count_few Form (tab c.args.form) c.state_count-forms.result c.requires.form c.state_count-forms.ensures in
+    let k = count_few Pattern (tab c.args.pattern) c.state_count-states.result c.requires.pattern c.state_count-states.ensures in
+    let m = most_few c.state_count-forms.result c.state_count-states.result h k in
     omega arith

@@ -5,18 +5,18 @@ use Rattle.table.specs.declared.fault.Role.TheVariants.{Form}
 use Rattle.table.specs.Check.{SoundTable}
 use Rattle.boxes.proofs.stage.file.check_file.Goals as goal
 
-pub returns-in-err-check-room : goal.returns-in-err-check-room
-returns-in-err-check-room g c =
-    let p = err_from_is_err_and c.from-residual-in-err-check-room.result c.from-residual-in-err-check-room.ensures.1 in
-    let form = subst (SoundTable Form) c.form-on.ensures c.in-ok-check.ensures in
-    rw (p.1, p.2) (inr (c.in-ok-check-lengths.ensures, inr (form, inr (c.in-ok-check-buffers.ensures, inr (c.in-ok-top.ensures.is, inl c.in-err-check-room.ensures)))))
+pub returns-in_err-check_room : goal.returns-in_err-check_room
+returns-in_err-check_room g c =
+    let p = err_from_is_err_and c.from_residual-in_err-check_room.result c.from_residual-in_err-check_room.ensures.1 in
+    let form = subst (SoundTable Form) c.form_on.ensures c.in_ok-check.ensures in
+    rw (p.1, p.2) (inr (c.in_ok-check_lengths.ensures, inr (form, inr (c.in_ok-check_buffers.ensures, inr (c.in_ok-top.ensures.is, inl c.in_err-check_room.ensures)))))
 
-pub returns-then-fits-form : goal.returns-then-fits-form
-returns-then-fits-form g c =
-    let form = subst (SoundTable Form) c.form-on.ensures c.in-ok-check.ensures in
-    (c.in-ok-check-lengths.ensures, (form, (c.in-ok-check-buffers.ensures, (c.in-ok-top.ensures.is, (c.in-ok-check-room.ensures, (c.fits-form.ensures.0 c.if-fits-form.true, tt))))))
+pub returns-then-fits_form : goal.returns-then-fits_form
+returns-then-fits_form g c =
+    let form = subst (SoundTable Form) c.form_on.ensures c.in_ok-check.ensures in
+    (c.in_ok-check_lengths.ensures, (form, (c.in_ok-check_buffers.ensures, (c.in_ok-top.ensures.is, (c.in_ok-check_room.ensures, (c.fits_form.ensures.0 c.if-fits_form.true, tt))))))
 
-pub returns-else-fits-form : goal.returns-else-fits-form
-returns-else-fits-form g c =
-    let form = subst (SoundTable Form) c.form-on.ensures c.in-ok-check.ensures in
-    inr (c.in-ok-check-lengths.ensures, inr (form, inr (c.in-ok-check-buffers.ensures, inr (c.in-ok-top.ensures.is, inr (c.in-ok-check-room.ensures, inl (λ r. true≢false (sym (c.fits-form.ensures.1 r) ∙ c.if-fits-form.false), refl))))))
+pub returns-else-fits_form : goal.returns-else-fits_form
+returns-else-fits_form g c =
+    let form = subst (SoundTable Form) c.form_on.ensures c.in_ok-check.ensures in
+    inr (c.in_ok-check_lengths.ensures, inr (form, inr (c.in_ok-check_buffers.ensures, inr (c.in_ok-top.ensures.is, inr (c.in_ok-check_room.ensures, inl (λ r. true≢false (sym (c.fits_form.ensures.1 r) ∙ c.if-fits_form.false), refl))))))

@@ -1,4 +1,4 @@
-use Rattle.std.proofs.Common.{◌≡◌, ℕ, ◌<◌, sym, refl, ◌∙◌, arith, below_more}
+use Rattle.std.proofs.Common.{ℕ, ◌<◌, sym, refl, ◌∙◌, arith, below_more}
 use Rattle.std.proofs.lemmas.Result.{err_from_is_err_and}
 use Rattle.std.proofs.lemmas.Bool.{true≢false}
 use Rattle.examine.specs.Search.{setting, state}
@@ -16,13 +16,13 @@ loop-first-init g c = (on_none c.loop-form.invariant.0.fine, λ f h. absurd (ome
 pub loop-second-init : goal.loop-second-init
 loop-second-init g c = (on_none c.loop-first.invariant.0.fine, λ f h. absurd (omega arith), refl, refl)
 
-pub loop-second-preserved-then-not-are-final : goal.loop-second-preserved-then-not-are-final
-loop-second-preserved-then-not-are-final g c =
+pub loop-second-preserved-then-not-are_final : goal.loop-second-preserved-then-not-are_final
+loop-second-preserved-then-not-are_final g c =
     let G = setting g.C.Class.kinds c.args.self.now in
     let t = state c.loop-second.draft in (
       c.loop-second.invariant.0,
       below_more (λ q. Begun G t c.loop-form.form c.loop-first.first q) c.loop-second.second c.loop-second.invariant.1
-          (λ e. absurd (true≢false (sym e ∙ sym c.if-not-are-final.ensures))),
+          (λ e. absurd (true≢false (sym e ∙ sym c.if-not-are_final.ensures))),
       c.loop-second.invariant.2,
       c.loop-second.invariant.3,
     )
@@ -35,14 +35,14 @@ claim-requires g c =
     let d = c.loop-second-test.true in
     record {
       fine = c.loop-second.invariant.0.fine;
-      due = stop_due G (state c.loop-second.draft) c.loop-form.form c.loop-first.first c.loop-second.second (omega arith, omega arith, omega arith) (sym c.if-not-are-final.ensures);
+      due = stop_due G (state c.loop-second.draft) c.loop-form.form c.loop-first.first c.loop-second.second (omega arith, omega arith, omega arith) (sym c.if-not-are_final.ensures);
     }
 
 pub loop-second-preserved : goal.loop-second-preserved
 loop-second-preserved g c =
     let G = setting g.C.Class.kinds c.args.self.now in
     let t = state c.claim.new.draft in
-    let o = c.in-ok-claim.ensures in (
+    let o = c.in_ok-claim.ensures in (
       on_more c.loop-second.invariant.0 o.went.0,
       below_more (λ q. Begun G t c.loop-form.form c.loop-first.first q) c.loop-second.second
           (λ q h. begun_on G c.loop-form.form c.loop-first.first q o.went.0.grown (c.loop-second.invariant.1 q h))
@@ -51,10 +51,10 @@ loop-second-preserved g c =
       o.helper ∙ c.loop-second.invariant.3,
     )
 
-pub returns-in-err-claim : goal.returns-in-err-claim
-returns-in-err-claim g c =
-    let h = c.in-err-claim.ensures in
-    let p = err_from_is_err_and c.from-residual.result c.from-residual.ensures.1 in
+pub returns-in_err-claim : goal.returns-in_err-claim
+returns-in_err-claim g c =
+    let h = c.in_err-claim.ensures in
+    let p = err_from_is_err_and c.from_residual.result c.from_residual.ensures.1 in
     record {
       went = rw (p.1, p.2) h.went;
       lines = h.lines ∙ (c.loop-second.invariant.2 ∙ (c.loop-first.invariant.2 ∙ c.loop-form.invariant.2));

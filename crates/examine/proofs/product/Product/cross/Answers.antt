@@ -1,5 +1,4 @@
-use Rattle.std.proofs.Common.{◌≡◌, ℕ, sym, ◌∙◌, arith}
-use Rattle.examine.specs.declared.fact.Sort.{Sort}
+use Rattle.std.proofs.Common.{◌∙◌}
 use Rattle.examine.specs.declared.fact.Sort.TheVariants.{Together, Poised, Apart}
 use Rattle.examine.specs.Facts.Makes.{plain, parted, within, beyond}
 use Rattle.examine.specs.Search.{setting, state}
@@ -14,12 +13,12 @@ join-requires g c = record { fine = c.requires.fine; used = c.requires.used; tak
 
 pub join-requires-then-trio : goal.join-requires-then-trio
 join-requires-then-trio g c =
-    let a = c.in-ok-join.ensures.went.0 in
+    let a = c.in_ok-join.ensures.went.0 in
     record { fine = a.fine; used = used_on a.grown c.requires.used; taken = c.requires.taken; makes = within c.if-trio.true }
 
 pub join-requires-then-trio-2 : goal.join-requires-then-trio-2
 join-requires-then-trio-2 g c =
-    let a = on_more c.in-ok-join.ensures.went.0 c.in-ok-join-2.ensures.went.0 in
+    let a = on_more c.in_ok-join.ensures.went.0 c.in_ok-join-2.ensures.went.0 in
     record { fine = a.fine; used = used_on a.grown c.requires.used; taken = c.requires.taken; makes = beyond c.if-trio.true }
 
 pub returns-then-trio : goal.returns-then-trio
@@ -30,8 +29,8 @@ returns-then-trio g c =
     let t = state c.join-then-trio-2.new.draft in
     let w = c.args.turn in
     let u = c.args.trio in
-    let o₁ = c.in-ok-join.ensures.went in
-    let o₂ = c.in-ok-join-2.ensures.went in
+    let o₁ = c.in_ok-join.ensures.went in
+    let o₂ = c.in_ok-join-2.ensures.went in
     let a = on_more o₁.0 o₂.0 in
     record {
       went = went_then G (Made G s₂ t w (inside_fact Together u) (after_fact Apart u) (whole_fact Apart u)) (Crossed G s t w u.form.rule u.first.rule u.second.rule) c.join-then-trio-2.result a
@@ -42,13 +41,13 @@ returns-then-trio g c =
           (λ q e. known_on h (whole_fact Apart u) (made_from G w c.requires.used.0 o₁.0.grown (inside_fact Apart u) (after_fact Together u) (whole_fact Apart u) o₂.1 e))
           (λ q. made_from G w c.requires.used.0 a.grown (inside_fact Together u) (after_fact Apart u) (whole_fact Apart u) d)))
           c.join-then-trio-2.ensures.went;
-      lines = c.join-then-trio-2.ensures.lines ∙ (c.in-ok-join-2.ensures.lines ∙ c.in-ok-join.ensures.lines);
-      helper = c.join-then-trio-2.ensures.helper ∙ (c.in-ok-join-2.ensures.helper ∙ c.in-ok-join.ensures.helper);
+      lines = c.join-then-trio-2.ensures.lines ∙ (c.in_ok-join-2.ensures.lines ∙ c.in_ok-join.ensures.lines);
+      helper = c.join-then-trio-2.ensures.helper ∙ (c.in_ok-join-2.ensures.helper ∙ c.in_ok-join.ensures.helper);
     }
 
 pub join-requires-then-trio-2-2 : goal.join-requires-then-trio-2-2
 join-requires-then-trio-2-2 g c =
-    let a = c.in-ok-join.ensures.went.0 in
+    let a = c.in_ok-join.ensures.went.0 in
     record { fine = a.fine; used = used_on a.grown c.requires.used; taken = c.requires.taken; makes = parted c.if-trio.false c.if-trio-2.true }
 
 pub returns-then-trio-2 : goal.returns-then-trio-2
@@ -59,7 +58,7 @@ returns-then-trio-2 g c =
     let t = state c.join-then-trio-2-2.new.draft in
     let w = c.args.turn in
     let u = c.args.trio in
-    let o₁ = c.in-ok-join.ensures.went in
+    let o₁ = c.in_ok-join.ensures.went in
     record {
       went = went_then G (Made G s₁ t w (inside_fact Together u) (after_fact Together u) (whole_fact Apart u)) (Crossed G s t w u.form.rule u.first.rule u.second.rule) c.join-then-trio-2-2.result o₁.0
           (λ h d. crossed_done G w u c.requires.taken
@@ -69,8 +68,8 @@ returns-then-trio-2 g c =
           (λ q. absurd (c.if-trio.false q))
           (λ q. absurd (c.if-trio.false q))))
           c.join-then-trio-2-2.ensures.went;
-      lines = c.join-then-trio-2-2.ensures.lines ∙ c.in-ok-join.ensures.lines;
-      helper = c.join-then-trio-2-2.ensures.helper ∙ c.in-ok-join.ensures.helper;
+      lines = c.join-then-trio-2-2.ensures.lines ∙ c.in_ok-join.ensures.lines;
+      helper = c.join-then-trio-2-2.ensures.helper ∙ c.in_ok-join.ensures.helper;
     }
 
 pub returns : goal.returns
@@ -80,7 +79,7 @@ returns g c =
     let t = state c.join.new.draft in
     let w = c.args.turn in
     let u = c.args.trio in
-    let o₁ = c.in-ok-join.ensures.went in
+    let o₁ = c.in_ok-join.ensures.went in
     record {
       went = (
         o₁.0,
@@ -91,6 +90,6 @@ returns g c =
             (λ q. absurd (c.if-trio.false q))
             (λ q. absurd (c.if-trio.false q))),
       );
-      lines = c.in-ok-join.ensures.lines;
-      helper = c.in-ok-join.ensures.helper;
+      lines = c.in_ok-join.ensures.lines;
+      helper = c.in_ok-join.ensures.helper;
     }

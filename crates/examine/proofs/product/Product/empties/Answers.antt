@@ -1,4 +1,4 @@
-use Rattle.std.proofs.Common.{◌≡◌, ℕ, ◌<◌, sym, refl, ◌∙◌, arith, below_more}
+use Rattle.std.proofs.Common.{sym, refl, ◌∙◌, arith, below_more}
 use Rattle.examine.specs.Search.{setting, state, LedBy}
 use Rattle.examine.proofs.Claims.{on_more, on_none, used_low}
 use Rattle.examine.proofs.Emptying.{used_on, line_same, led_on, led_from, led_past}
@@ -7,8 +7,8 @@ use Rattle.examine.proofs.product.Product.empties.Goals as goal
 pub loop-r-init : goal.loop-r-init
 loop-r-init g c = (on_none c.requires.fine, λ s h. absurd (omega arith), refl, refl, refl)
 
-pub skips-by-requires : goal.skips-by-requires
-skips-by-requires g c =
+pub skips_by-requires : goal.skips_by-requires
+skips_by-requires g c =
     let a = c.loop-r.invariant.0 in
     record {
       fine = a.fine;
@@ -21,16 +21,16 @@ pub loop-r-preserved : goal.loop-r-preserved
 loop-r-preserved g c =
     let G = setting g.C.Class.kinds c.args.self.now in
     let s = state c.args.draft.now in
-    let t = state c.skips-by.new.draft in
+    let t = state c.skips_by.new.draft in
     let a = c.loop-r.invariant.0 in
-    let o = c.in-ok-skips-by.ensures.went in (
+    let o = c.in_ok-skips_by.ensures.went in (
       on_more a o.0,
       below_more (λ r. LedBy G s t c.args.b r) c.loop-r.r
           (λ r h. led_on G c.args.b r o.0.grown (c.loop-r.invariant.1 r h))
           (led_from G c.args.b c.loop-r.r c.requires.used.0 a.grown o.1),
       c.loop-r.invariant.2,
-      c.in-ok-skips-by.ensures.lines ∙ c.loop-r.invariant.3,
-      c.in-ok-skips-by.ensures.helper ∙ c.loop-r.invariant.4,
+      c.in_ok-skips_by.ensures.lines ∙ c.loop-r.invariant.3,
+      c.in_ok-skips_by.ensures.helper ∙ c.loop-r.invariant.4,
     )
 
 pub returns : goal.returns
@@ -42,8 +42,8 @@ returns g c =
       helper = c.loop-r.invariant.4;
     }
 
-pub offset-bounds-draft-b : goal.offset-bounds-draft-b
-offset-bounds-draft-b g c = let h = used_low c.args.b c.requires.fine c.requires.used.1 in omega arith
+pub offset_bounds-draft-b : goal.offset_bounds-draft-b
+offset_bounds-draft-b g c = let h = used_low c.args.b c.requires.fine c.requires.used.1 in omega arith
 
 pub bounds-draft-b : goal.bounds-draft-b
 bounds-draft-b g c = (used_low c.args.b c.requires.fine c.requires.used.1).1

@@ -1,4 +1,4 @@
-use Rattle.std.proofs.Common.{◌≡◌, ℕ, ◌∙◌}
+use Rattle.std.proofs.Common.{ℕ, ◌∙◌}
 use Rattle.examine.specs.declared.turn.Side.TheVariants.{After}
 use Rattle.examine.specs.declared.turn.Turn.{Turn}
 use Rattle.examine.specs.Search.{setting, state}
@@ -17,11 +17,11 @@ returns g c =
     let a = c.args.a in
     let b = c.args.b in
     let w : Turn = record { side = After; line = b; bound = a } in
-    let o = c.in-ok-empties.ensures.went in
+    let o = c.in_ok-empties.ensures.went in
     record {
       went = went_then G ((r₀ r₁ r₂ : ℕ) → Crossed G s₁ t w r₀ r₁ r₂) (Followed G s t a b) c.joins.result o.0
           (λ h d. record { empties = λ r. led_on G b r h (o.1 r); joins = λ r₀ r₁ r₂. crossed_from G w r₀ r₁ r₂ c.requires.used.0 o.0.grown (d r₀ r₁ r₂) })
           c.joins.ensures.went;
-      lines = c.joins.ensures.lines ∙ c.in-ok-empties.ensures.lines;
-      helper = c.joins.ensures.helper ∙ c.in-ok-empties.ensures.helper;
+      lines = c.joins.ensures.lines ∙ c.in_ok-empties.ensures.lines;
+      helper = c.joins.ensures.helper ∙ c.in_ok-empties.ensures.helper;
     }

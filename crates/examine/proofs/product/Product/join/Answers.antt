@@ -1,6 +1,6 @@
-use Rattle.std.proofs.Common.{◌≡◌, ◌<◌, true, sym, ap, ◌∙◌, subst, arith}
+use Rattle.std.proofs.Common.{◌≡◌, ◌<◌, sym, ap, ◌∙◌, subst}
 use Rattle.examine.specs.Search.{setting, state, line_of, Known}
-use Rattle.examine.specs.Turns.{pairs, inside_fact, after_fact}
+use Rattle.examine.specs.Turns.{inside_fact, after_fact}
 use Rattle.examine.proofs.Emptying.{shown_by, low_at}
 use Rattle.examine.proofs.Joining.{inside_low, after_low, join_due, pairs_above}
 use Rattle.examine.proofs.product.Product.join.Goals as goal

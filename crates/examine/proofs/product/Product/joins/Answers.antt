@@ -1,4 +1,4 @@
-use Rattle.std.proofs.Common.{◌≡◌, ℕ, ◌<◌, sym, refl, ◌∙◌, subst, subst₂, arith, below_more}
+use Rattle.std.proofs.Common.{ℕ, sym, refl, ◌∙◌, subst, subst₂, arith, below_more}
 use Rattle.examine.specs.Search.{setting, state, Went}
 use Rattle.examine.specs.declared.turn.Arm.{Arm}
 use Rattle.examine.specs.Turns.{Met, Crossed}
@@ -7,8 +7,8 @@ use Rattle.examine.proofs.Emptying.{used_on, line_same, went_ok}
 use Rattle.examine.proofs.Joining.{turn_states, not_crossed, crossed_on, crossed_from, takes_are, empty_never, elsewhere, apart_kinds, met_by}
 use Rattle.examine.proofs.product.Product.joins.Goals as goal
 
-pub offset-bounds-draft-turn : goal.offset-bounds-draft-turn
-offset-bounds-draft-turn g c = let h = used_low c.args.turn.line c.requires.fine c.requires.used.1 in omega arith
+pub offset_bounds-draft-turn : goal.offset_bounds-draft-turn
+offset_bounds-draft-turn g c = let h = used_low c.args.turn.line c.requires.fine c.requires.used.1 in omega arith
 
 pub bounds-draft-turn : goal.bounds-draft-turn
 bounds-draft-turn g c = (used_low c.args.turn.line c.requires.fine c.requires.used.1).1
@@ -16,8 +16,8 @@ bounds-draft-turn g c = (used_low c.args.turn.line c.requires.fine c.requires.us
 pub rules-init : goal.rules-init
 rules-init g c = (on_none c.requires.fine, λ s h. absurd (omega arith), refl, refl, refl, refl)
 
-pub rules-preserved-in-default : goal.rules-preserved-in-default
-rules-preserved-in-default g c =
+pub rules-preserved-in_default : goal.rules-preserved-in_default
+rules-preserved-in_default g c =
     let G = setting g.C.Class.kinds c.args.self.now in
     let s = state c.args.draft.now in
     let t = state c.rules.draft in
@@ -26,7 +26,7 @@ rules-preserved-in-default g c =
       c.rules.invariant.0,
       below_more (λ r₀. (r₁ r₂ : ℕ) → Crossed G s t w r₀ r₁ r₂) i c.rules.invariant.1
           (λ r₁ r₂. not_crossed G w i r₁ r₂
-          (λ k x y z j a b e. empty_never G.kinds G.form i c.rule-item.result (c.rules-test.true, sym c.rule-item.is) c.in-default.is _ _ _ _ j.form)),
+          (λ k x y z j a b e. empty_never G.kinds G.form i c.rule-item.result (c.rules-test.true, sym c.rule-item.is) c.in_default.is _ _ _ _ j.form)),
       c.rules.invariant.2,
       c.rules.invariant.3,
       c.rules.invariant.4,
@@ -55,8 +55,8 @@ rules-preserved-then-state-line g c =
 pub loop-j-init : goal.loop-j-init
 loop-j-init g c = (on_none c.rules.invariant.0.fine, λ s h. absurd (omega arith), c.rules.invariant.3, refl, refl)
 
-pub loop-j-preserved-in-default-step : goal.loop-j-preserved-in-default-step
-loop-j-preserved-in-default-step g c =
+pub loop-j-preserved-in_default-step : goal.loop-j-preserved-in_default-step
+loop-j-preserved-in_default-step g c =
     let G = setting g.C.Class.kinds c.args.self.now in
     let s = state c.rules.draft in
     let t = state c.loop-j.draft in
@@ -66,7 +66,7 @@ loop-j-preserved-in-default-step g c =
       c.loop-j.invariant.0,
       below_more (λ r₁. (r₂ : ℕ) → Crossed G s t w i r₁ r₂) n c.loop-j.invariant.1
           (λ r₂. not_crossed G w i n r₂
-          (λ k x y z j a b e. empty_never G.kinds G.pattern n c.other-item.result (c.loop-j-test.true, sym c.other-item.is) c.in-default-step.is _ _ _ _ j.first)),
+          (λ k x y z j a b e. empty_never G.kinds G.pattern n c.other-item.result (c.loop-j-test.true, sym c.other-item.is) c.in_default-step.is _ _ _ _ j.first)),
       c.loop-j.invariant.2,
       c.loop-j.invariant.3,
       c.loop-j.invariant.4,
@@ -93,8 +93,8 @@ loop-j-preserved-then-state-line-2 g c =
       c.loop-j.invariant.4,
     )
 
-pub loop-j-preserved-in-default-meet : goal.loop-j-preserved-in-default-meet
-loop-j-preserved-in-default-meet g c =
+pub loop-j-preserved-in_default-meet : goal.loop-j-preserved-in_default-meet
+loop-j-preserved-in_default-meet g c =
     let G = setting g.C.Class.kinds c.args.self.now in
     let s = state c.rules.draft in
     let t = state c.loop-j.draft in
@@ -107,7 +107,7 @@ loop-j-preserved-in-default-meet g c =
           (λ k x y z j a b e.
           let f = takes_are G.kinds G.form i c.rule-item.result c.in-Node.class c.in-Node.inside c.in-Node.marks (c.rules-test.true, sym c.rule-item.is) c.in-Node.is _ _ _ _ j.form in
           let h = takes_are G.kinds G.pattern n c.other-item.result c.in-Node-step.beside c.in-Node-step.within c.in-Node-step.marks (c.loop-j-test.true, sym c.other-item.is) c.in-Node-step.is _ _ _ _ j.first in
-          apart_kinds G c.in-Node.class c.in-Node-step.beside k c.in-default-meet.ensures j.form.kind f.2 h.2)),
+          apart_kinds G c.in-Node.class c.in-Node-step.beside k c.in_default-meet.ensures j.form.kind f.2 h.2)),
       c.loop-j.invariant.2,
       c.loop-j.invariant.3,
       c.loop-j.invariant.4,
@@ -137,7 +137,7 @@ loop-j-preserved g c =
     let i = c.rules.i in
     let n = c.loop-j.j in
     let a = c.loop-j.invariant.0 in
-    let o = went_ok G ((r : ℕ) → Crossed G t' t w c.new-form.result.rule c.new-first.result.rule r) c.seconds-verdict.result (sym c.if-is-err.ensures.value) c.seconds-verdict.ensures.went in
+    let o = went_ok G ((r : ℕ) → Crossed G t' t w c.new-form.result.rule c.new-first.result.rule r) c.seconds-verdict.result (sym c.if-is_err.ensures.value) c.seconds-verdict.ensures.went in
     let d = subst₂ (λ (x y : Arm). (r : ℕ) → Crossed G t' t w x.rule y.rule r) c.new-form.ensures c.new-first.ensures o.2 in (
       on_more a o.1,
       below_more (λ r₁. (r₂ : ℕ) → Crossed G s t w i r₁ r₂) n

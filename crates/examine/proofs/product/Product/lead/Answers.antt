@@ -1,11 +1,11 @@
-use Rattle.std.proofs.Common.{◌≡◌, sym, ◌∙◌, arith}
-use Rattle.examine.specs.Search.{setting, state}
+use Rattle.std.proofs.Common.{sym, ◌∙◌, arith}
+use Rattle.examine.specs.Search.{setting}
 use Rattle.examine.proofs.Claims.{used_low}
 use Rattle.examine.proofs.Emptying.{shown_by, lead_due}
 use Rattle.examine.proofs.product.Product.lead.Goals as goal
 
-pub offset-bounds-draft-b : goal.offset-bounds-draft-b
-offset-bounds-draft-b g c = let h = used_low c.args.b c.requires.fine c.requires.used.1 in omega arith
+pub offset_bounds-draft-b : goal.offset_bounds-draft-b
+offset_bounds-draft-b g c = let h = used_low c.args.b c.requires.fine c.requires.used.1 in omega arith
 
 pub bounds-draft-b : goal.bounds-draft-b
 bounds-draft-b g c = (used_low c.args.b c.requires.fine c.requires.used.1).1

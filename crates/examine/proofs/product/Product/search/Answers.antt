@@ -1,4 +1,4 @@
-use Rattle.std.proofs.Common.{◌≡◌, ℕ, ◌<◌, sym, refl, ◌∙◌, arith}
+use Rattle.std.proofs.Common.{refl, ◌∙◌, arith}
 use Rattle.examine.specs.Search.{setting, state}
 use Rattle.examine.proofs.Claims.{on_none, on_more, used_few}
 use Rattle.examine.proofs.Searching.{tried_none, tried_after, tried_inside, tried_all, begun_on}
@@ -7,7 +7,7 @@ use Rattle.examine.proofs.product.Product.search.Goals as goal
 pub loop-a-init : goal.loop-a-init
 loop-a-init g c =
     let G = setting g.C.Class.kinds c.args.self.now in
-    let o = c.in-ok-begin.ensures.went.0 in
+    let o = c.in_ok-begin.ensures.went.0 in
     let z = o.fine.begun in
     (on_none o.fine, tried_none G (state c.begin.new.draft), omega arith, omega arith, omega arith, refl, refl)
 
@@ -22,7 +22,7 @@ pub loop-a-preserved-then-b-draft : goal.loop-a-preserved-then-b-draft
 loop-a-preserved-then-b-draft g c =
     let G = setting g.C.Class.kinds c.args.self.now in
     let v = c.loop-a.invariant in
-    let o = c.in-ok-follow.ensures in
+    let o = c.in_ok-follow.ensures in
     let m = o.went.0.grown.more in (
       on_more v.0 o.went.0,
       tried_after G c.loop-a.a c.loop-a.b o.went.0 v.1 c.if-b-draft.true v.3 o.went.1,
@@ -43,7 +43,7 @@ pub loop-a-preserved : goal.loop-a-preserved
 loop-a-preserved g c =
     let G = setting g.C.Class.kinds c.args.self.now in
     let v = c.loop-a.invariant in
-    let o = c.in-ok-joins.ensures in
+    let o = c.in_ok-joins.ensures in
     let m = o.went.0.grown.more in
     let i = c.if-b-draft.false in
     let j = c.loop-a-test.true in (
@@ -60,7 +60,7 @@ pub returns : goal.returns
 returns g c =
     let G = setting g.C.Class.kinds c.args.self.now in
     let v = c.loop-a.invariant in
-    let o = c.in-ok-begin.ensures in
+    let o = c.in_ok-begin.ensures in
     let i = c.loop-a-test.false in
     let j = v.3 in
     record {

@@ -1,4 +1,4 @@
-use Rattle.std.proofs.Common.{◌≡◌, ℕ, ◌+◌, ◌-◌, ◌<◌, ◌≤◌}
+use Rattle.std.proofs.Common.{◌≡◌, ◌+◌, ◌-◌, ◌<◌, ◌≤◌}
 use Rattle.examine.specs.Search.{setting, state, On}
 use Rattle.examine.specs.Frontiers.{Tried}
 use Rattle.examine.proofs.product.Product.search.Given as goal

@@ -1,4 +1,4 @@
-use Rattle.std.proofs.Common.{◌≡◌, ℕ, ◌<◌, sym, refl, ◌∙◌, subst, arith, below_more}
+use Rattle.std.proofs.Common.{sym, refl, ◌∙◌, subst, arith, below_more}
 use Rattle.std.proofs.lemmas.Result.{err_from_is_err_and}
 use Rattle.examine.specs.Search.{setting, state}
 use Rattle.examine.specs.declared.turn.Arm.{Arm}
@@ -11,8 +11,8 @@ use Rattle.examine.proofs.product.Product.seconds.Goals as goal
 pub loop-i-init : goal.loop-i-init
 loop-i-init g c = (on_none c.requires.fine, λ s h. absurd (omega arith), refl, refl)
 
-pub loop-i-preserved-in-default : goal.loop-i-preserved-in-default
-loop-i-preserved-in-default g c =
+pub loop-i-preserved-in_default : goal.loop-i-preserved-in_default
+loop-i-preserved-in_default g c =
     let G = setting g.C.Class.kinds c.args.self.now in
     let s = state c.args.draft.now in
     let t = state c.loop-i.draft in
@@ -21,7 +21,7 @@ loop-i-preserved-in-default g c =
       c.loop-i.invariant.0,
       below_more (λ r. Crossed G s t c.args.turn f p r) c.loop-i.i c.loop-i.invariant.1
           (not_crossed G c.args.turn f p c.loop-i.i
-          (λ k x y z j a b e. empty_never G.kinds G.pattern c.loop-i.i c.rule-item.result (c.loop-i-test.true, sym c.rule-item.is) c.in-default.is _ _ _ _ j.second)),
+          (λ k x y z j a b e. empty_never G.kinds G.pattern c.loop-i.i c.rule-item.result (c.loop-i-test.true, sym c.rule-item.is) c.in_default.is _ _ _ _ j.second)),
       c.loop-i.invariant.2,
       c.loop-i.invariant.3,
     )
@@ -43,8 +43,8 @@ loop-i-preserved-then-state-line g c =
       c.loop-i.invariant.3,
     )
 
-pub loop-i-preserved-in-default-meet : goal.loop-i-preserved-in-default-meet
-loop-i-preserved-in-default-meet g c =
+pub loop-i-preserved-in_default-meet : goal.loop-i-preserved-in_default-meet
+loop-i-preserved-in_default-meet g c =
     let G = setting g.C.Class.kinds c.args.self.now in
     let s = state c.args.draft.now in
     let t = state c.loop-i.draft in
@@ -55,7 +55,7 @@ loop-i-preserved-in-default-meet g c =
           (not_crossed G c.args.turn f p c.loop-i.i
           (λ k x y z j a b e.
           let h = takes_are G.kinds G.pattern c.loop-i.i c.rule-item.result c.in-Node.class c.in-Node.inside c.in-Node.marks (c.loop-i-test.true, sym c.rule-item.is) c.in-Node.is _ _ _ _ j.second in
-          apart_kinds G c.args.met c.in-Node.class k c.in-default-meet.ensures j.second.kind (c.requires.met.only k _ _ _ _ _ _ j.form j.first) h.2)),
+          apart_kinds G c.args.met c.in-Node.class k c.in_default-meet.ensures j.second.kind (c.requires.met.only k _ _ _ _ _ _ j.form j.first) h.2)),
       c.loop-i.invariant.2,
       c.loop-i.invariant.3,
     )
@@ -69,7 +69,7 @@ cross-requires g c =
       used = used_on a.grown c.requires.used;
       taken = subst (λ (x : Arm). Taken G (record { kind = c.least-kind.result; form = c.args.form; first = c.args.first; second = x })) (sym c.new-second.ensures)
           (taken_by G c.in-Some.all c.args.met c.in-Node.class c.args.form c.args.first c.loop-i.i c.least-kind.result c.rule-item.result c.in-Node.inside c.in-Node.marks
-          c.requires.met (c.loop-i-test.true, sym c.rule-item.is) c.in-Node.is c.in-Some.ensures c.least-kind.type-inv c.least-kind.ensures.member);
+          c.requires.met (c.loop-i-test.true, sym c.rule-item.is) c.in-Node.is c.in-Some.ensures c.least-kind.type_inv c.least-kind.ensures.member);
     }
 
 pub loop-i-preserved : goal.loop-i-preserved
@@ -80,20 +80,20 @@ loop-i-preserved g c =
     let f = c.args.form.rule in
     let p = c.args.first.rule in
     let a = c.loop-i.invariant.0 in
-    let o = c.in-ok-cross.ensures.went in (
+    let o = c.in_ok-cross.ensures.went in (
       on_more a o.0,
       below_more (λ r. Crossed G s t c.args.turn f p r) c.loop-i.i
           (λ r h. crossed_on G c.args.turn f p r o.0.grown (c.loop-i.invariant.1 r h))
           (crossed_from G c.args.turn f p c.loop-i.i c.requires.used.0 a.grown
           (subst (λ (x : Arm). Crossed G (state c.loop-i.draft) t c.args.turn f p x.rule) c.new-second.ensures o.1)),
-      c.in-ok-cross.ensures.lines ∙ c.loop-i.invariant.2,
-      c.in-ok-cross.ensures.helper ∙ c.loop-i.invariant.3,
+      c.in_ok-cross.ensures.lines ∙ c.loop-i.invariant.2,
+      c.in_ok-cross.ensures.helper ∙ c.loop-i.invariant.3,
     )
 
-pub returns-in-err-cross : goal.returns-in-err-cross
-returns-in-err-cross g c =
-    let h = c.in-err-cross.ensures in
-    let p = err_from_is_err_and c.from-residual.result c.from-residual.ensures.1 in
+pub returns-in_err-cross : goal.returns-in_err-cross
+returns-in_err-cross g c =
+    let h = c.in_err-cross.ensures in
+    let p = err_from_is_err_and c.from_residual.result c.from_residual.ensures.1 in
     record { went = rw (p.1, p.2) h.went; lines = h.lines ∙ c.loop-i.invariant.2; helper = h.helper ∙ c.loop-i.invariant.3 }
 
 pub returns : goal.returns

@@ -1,8 +1,8 @@
-use Rattle.std.proofs.Common.{◌≡◌, ℕ, sym, ◌∙◌, arith}
+use Rattle.std.proofs.Common.{ℕ, ◌∙◌}
 use Rattle.examine.specs.Facts.{together, poised, apart}
 use Rattle.examine.specs.Facts.Leads.{slips, slides, against, both}
 use Rattle.examine.specs.Search.{setting, state, LedBy, Forked}
-use Rattle.examine.proofs.Claims.{known_on, on_more, on_none}
+use Rattle.examine.proofs.Claims.{known_on, on_more}
 use Rattle.examine.proofs.Emptying.{went_then, used_on, line_on, line_low, line_same, rule_low, lead_at, low_at, then_at, skips_done, forked_from}
 use Rattle.examine.proofs.product.Product.skips.Goals as goal
 
@@ -26,7 +26,7 @@ lead-requires-2 g c =
     let G = setting g.C.Class.kinds c.args.self.now in
     let l = line_low G c.args.b c.requires.fine c.requires.used c.requires.line in
     let u = rule_low G c.requires.fine c.args.r c.requires.rule in
-    let a = c.in-ok-lead.ensures.went.0 in
+    let a = c.in_ok-lead.ensures.went.0 in
     let x = c.poised-against.ensures in
     let y = c.apart-apart.ensures in
     record {
@@ -42,7 +42,7 @@ lead-requires-3 g c =
     let G = setting g.C.Class.kinds c.args.self.now in
     let l = line_low G c.args.b c.requires.fine c.requires.used c.requires.line in
     let u = rule_low G c.requires.fine c.args.r c.requires.rule in
-    let a = on_more c.in-ok-lead.ensures.went.0 c.in-ok-lead-2.ensures.went.0 in
+    let a = on_more c.in_ok-lead.ensures.went.0 c.in_ok-lead-2.ensures.went.0 in
     let x = c.together-slide.ensures in
     let y = c.together-slid.ensures in
     record {
@@ -58,7 +58,7 @@ lead-requires-4 g c =
     let G = setting g.C.Class.kinds c.args.self.now in
     let l = line_low G c.args.b c.requires.fine c.requires.used c.requires.line in
     let u = rule_low G c.requires.fine c.args.r c.requires.rule in
-    let a = on_more (on_more c.in-ok-lead.ensures.went.0 c.in-ok-lead-2.ensures.went.0) c.in-ok-lead-3.ensures.went.0 in
+    let a = on_more (on_more c.in_ok-lead.ensures.went.0 c.in_ok-lead-2.ensures.went.0) c.in_ok-lead-3.ensures.went.0 in
     let x = c.apart.ensures in
     let y = c.apart-apart.ensures in
     record {
@@ -71,7 +71,7 @@ lead-requires-4 g c =
 
 pub forks-requires : goal.forks-requires
 forks-requires g c =
-    let a = on_more (on_more (on_more c.in-ok-lead.ensures.went.0 c.in-ok-lead-2.ensures.went.0) c.in-ok-lead-3.ensures.went.0) c.in-ok-lead-4.ensures.went.0 in
+    let a = on_more (on_more (on_more c.in_ok-lead.ensures.went.0 c.in_ok-lead-2.ensures.went.0) c.in_ok-lead-3.ensures.went.0) c.in_ok-lead-4.ensures.went.0 in
     record { fine = a.fine; used = used_on a.grown c.requires.used; line = line_same c.args.b a.grown c.requires.used c.requires.line; rule = c.requires.rule }
 
 pub returns : goal.returns
@@ -88,10 +88,10 @@ returns g c =
     let l = c.args.line in
     let from = c.args.from in
     let to = c.args.to in
-    let o₁ = c.in-ok-lead.ensures.went in
-    let o₂ = c.in-ok-lead-2.ensures.went in
-    let o₃ = c.in-ok-lead-3.ensures.went in
-    let o₄ = c.in-ok-lead-4.ensures.went in
+    let o₁ = c.in_ok-lead.ensures.went in
+    let o₂ = c.in_ok-lead-2.ensures.went in
+    let o₃ = c.in_ok-lead-3.ensures.went in
+    let o₄ = c.in_ok-lead-4.ensures.went in
     let a₂ = on_more o₁.0 o₂.0 in
     let a₃ = on_more a₂ o₃.0 in
     let a₄ = on_more a₃ o₄.0 in
@@ -110,6 +110,6 @@ returns g c =
           (then_at G s₃ s₄ b c.apart.ensures c.apart-apart.ensures o₄.1 (line_on G b a₃.grown z (apart l.form to) e)))
           (λ r₂. forked_from G b c.args.r r₂ z a₄.grown (d r₂)))
           c.forks.ensures.went;
-      lines = c.forks.ensures.lines ∙ (c.in-ok-lead-4.ensures.lines ∙ (c.in-ok-lead-3.ensures.lines ∙ (c.in-ok-lead-2.ensures.lines ∙ c.in-ok-lead.ensures.lines)));
-      helper = c.forks.ensures.helper ∙ (c.in-ok-lead-4.ensures.helper ∙ (c.in-ok-lead-3.ensures.helper ∙ (c.in-ok-lead-2.ensures.helper ∙ c.in-ok-lead.ensures.helper)));
+      lines = c.forks.ensures.lines ∙ (c.in_ok-lead-4.ensures.lines ∙ (c.in_ok-lead-3.ensures.lines ∙ (c.in_ok-lead-2.ensures.lines ∙ c.in_ok-lead.ensures.lines)));
+      helper = c.forks.ensures.helper ∙ (c.in_ok-lead-4.ensures.helper ∙ (c.in_ok-lead-3.ensures.helper ∙ (c.in_ok-lead-2.ensures.helper ∙ c.in_ok-lead.ensures.helper)));
     }

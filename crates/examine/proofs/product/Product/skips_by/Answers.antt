@@ -1,16 +1,15 @@
-use Rattle.std.proofs.Common.{◌≡◌, sym, refl, ap, ◌∙◌, subst, arith}
-use Rattle.table.specs.declared.rule.Rule.{Rule}
+use Rattle.std.proofs.Common.{refl, subst}
 use Rattle.table.specs.Table.{At}
 use Rattle.examine.specs.Search.{setting, state}
 use Rattle.examine.proofs.Claims.{on_none}
 use Rattle.examine.proofs.Emptying.{node_leads_not, leads_not}
 use Rattle.examine.proofs.product.Product.skips_by.Goals as goal
 
-pub returns-in-default : goal.returns-in-default
-returns-in-default g c =
+pub returns-in_default : goal.returns-in_default
+returns-in_default g c =
     let G = setting g.C.Class.kinds c.args.self.now in
     record {
-      went = (on_none c.requires.fine, node_leads_not G c.args.b c.args.r c.args.rule c.requires.rule c.in-default.not-Empty);
+      went = (on_none c.requires.fine, node_leads_not G c.args.b c.args.r c.args.rule c.requires.rule c.in_default.not-Empty);
       lines = refl;
       helper = refl;
     }

@@ -1,10 +1,10 @@
-use Rattle.std.proofs.Common.{◌≡◌, ℕ, ◌+◌, ◌*◌, ◌<◌, ◌≤◌, sym, ap, subst, arith}
+use Rattle.std.proofs.Common.{◌≡◌, ◌+◌, ◌*◌, ◌<◌, sym, ap, subst, arith}
 use Rattle.examine.specs.Search.{setting, slot, most}
 use Rattle.examine.proofs.Slots.{slot_low, most_few, form_part, first_part, times_few}
 use Rattle.examine.proofs.product.Product.slot.Goals as goal
 
-pub overflow-mul-first : goal.overflow-mul-first
-overflow-mul-first g c =
+pub overflow_mul-first : goal.overflow_mul-first
+overflow_mul-first g c =
     let G = setting g.C.Class.kinds c.args.self.now in
     let S = c.args.self.now.forms in
     let x = c.args.fact in
@@ -12,8 +12,8 @@ overflow-mul-first g c =
     let k = times_few (c.code.result * S + x.form) 96 c.args.self.now.states (omega arith) c.requires.bounded.states_few in
     omega arith
 
-pub overflow-add-first : goal.overflow-add-first
-overflow-add-first g c =
+pub overflow_add-first : goal.overflow_add-first
+overflow_add-first g c =
     let G = setting g.C.Class.kinds c.args.self.now in
     let S = c.args.self.now.forms in
     let Q = c.args.self.now.states in
@@ -22,8 +22,8 @@ overflow-add-first g c =
     subst (λ z. (z * S + x.form) * Q + x.first < 6144) (sym c.code.ensures) (first_part G x c.requires.low c.requires.bounded.forms_few c.requires.bounded.states_few) in
     omega arith
 
-pub overflow-mul-result : goal.overflow-mul-result
-overflow-mul-result g c =
+pub overflow_mul-result : goal.overflow_mul-result
+overflow_mul-result g c =
     let G = setting g.C.Class.kinds c.args.self.now in
     let S = c.args.self.now.forms in
     let Q = c.args.self.now.states in
@@ -33,8 +33,8 @@ overflow-mul-result g c =
     let k = times_few ((c.code.result * S + x.form) * Q + x.first) 6144 Q (omega arith) c.requires.bounded.states_few in
     omega arith
 
-pub overflow-add-result : goal.overflow-add-result
-overflow-add-result g c =
+pub overflow_add-result : goal.overflow_add-result
+overflow_add-result g c =
     let G = setting g.C.Class.kinds c.args.self.now in
     let S = c.args.self.now.forms in
     let Q = c.args.self.now.states in

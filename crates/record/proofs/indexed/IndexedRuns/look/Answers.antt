@@ -1,4 +1,4 @@
-use Rattle.std.proofs.Common.{◌≡◌, ◌-◌, get_or, sym, ◌∙◌, arith, rules}
+use Rattle.std.proofs.Common.{◌-◌, get_or, ◌∙◌, arith}
 use Rattle.record.proofs.Looks.{shown_zero, shown_above, shown_at, lower_some, lower_inside, lower_after}
 use Rattle.record.proofs.indexed.IndexedRuns.look.Goals as goal
 use Rattle.record.proofs.indexed.IndexedRuns.look.Goals.{then-place-eq0-via-then-place-eq0, then-place-eq0-via-else-place-eq0+then-place-top, else-node-place-via-then-node-place+else-node-place-2, else-node-place-via-else-node-place}

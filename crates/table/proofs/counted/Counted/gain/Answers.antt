@@ -6,5 +6,5 @@ pub returns : goal.returns
 returns c =
     record {
       somes = c.with.ensures;
-      manys = λ q. c.with-if.ensures q ∙ ap (λ z. bit c.args.self.many q || ((c.args.twice || z) && eqb c.args.state q)) c.holds.ensures;
+      manys = λ q. c.with_if.ensures q ∙ ap (λ z. bit c.args.self.many q || ((c.args.twice || z) && eqb c.args.state q)) c.holds.ensures;
     }

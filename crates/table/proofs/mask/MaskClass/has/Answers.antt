@@ -7,6 +7,6 @@ use Rattle.table.proofs.mask.MaskClass.has.Goals as goal
 
 pub returns-else-kind-lt64 : goal.returns-else-kind-lt64
 returns-else-kind-lt64 c =
-    let m = c.meant-bits-bits.result in
+    let m = c.meant_bits-bits.result in
     le-ltb c.args.kind 64 c.if-kind-lt64.false
-    ∙ (sym (not_bit m c.args.kind (no_bit_from m 64 c.args.kind (omega arith) c.if-kind-lt64.false)) ∙ ap (λ z. bit z c.args.kind) c.meant-bits-bits.ensures)
+    ∙ (sym (not_bit m c.args.kind (no_bit_from m 64 c.args.kind (omega arith) c.if-kind-lt64.false)) ∙ ap (λ z. bit z c.args.kind) c.meant_bits-bits.ensures)

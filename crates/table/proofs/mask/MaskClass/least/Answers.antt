@@ -7,9 +7,9 @@ use Rattle.table.proofs.mask.MaskClass.least.Goals as goal
 
 pub returns : goal.returns
 returns c =
-    let e : c.meant-bits.result ≡ meant c.args.self.now.bits = c.meant-bits.ensures in
+    let e : c.meant_bits.result ≡ meant c.args.self.now.bits = c.meant_bits.ensures in
     record {
-      member = subst (λ z. Bit z (count_trailing_zeros 64 c.meant-bits.result)) e
-          (least_bit 64 c.meant-bits.result (omega arith) (λ z. meant_some c.args.self.now.bits (sym e ∙ z)));
-      lowest = λ k b. least_low 64 c.meant-bits.result k (subst (λ z. Bit z k) (sym e) b);
+      member = subst (λ z. Bit z (count_trailing_zeros 64 c.meant_bits.result)) e
+          (least_bit 64 c.meant_bits.result (omega arith) (λ z. meant_some c.args.self.now.bits (sym e ∙ z)));
+      lowest = λ k b. least_low 64 c.meant_bits.result k (subst (λ z. Bit z k) (sym e) b);
     }
