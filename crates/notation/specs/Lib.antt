@@ -6,3 +6,4 @@ pub mod Number
 pub mod Names
 pub mod Spelt
 pub mod Rule
+pub mod Text

@@ -1,5 +1,5 @@
 -- Lines, and how far a line has been read.
-use Rattle.std.specs.Prelude.{◌≡◌, ℕ, ◌+◌, ◌-◌, ◌<◌, ◌≤◌, List, length, ◌≢◌, slice_index}
+use Rattle.std.specs.Prelude.{◌≡◌, ℕ, ◌-◌, ◌<◌, ◌≤◌, List, length, ◌≢◌, slice_index}
 use Rattle.std.specs.List.{between}
 use Rattle.notation.specs.Quote.{Quoted}
 use Rattle.notation.specs.declared.scan.Cursor.{Cursor}
@@ -22,6 +22,11 @@ pub record Gave (before after : Source) : Type 0 where
   pub same : after.text.now ≡ before.text.now
   pub more : before.at < length before.text.now
   pub up : before.at < after.at
+
+-- a source gave lines, or none
+pub record ReadOn (before after : Source) : Type 0 where
+  pub same : after.text.now ≡ before.text.now
+  pub up : before.at ≤ after.at
 
 -- how much of a source is left, and of a line
 abbrev pub left : Source → ℕ

@@ -1,5 +1,5 @@
 -- Bytes that are a run of nodes.
-use Rattle.std.specs.Prelude.{◌≡◌, ℕ, ◌+◌, ◌^◌, ◌<◌, ◌≤◌, List, ◌++◌, length, vec_items, Vec}
+use Rattle.std.specs.Prelude.{◌≡◌, ℕ, ◌+◌, ◌^◌, ◌<◌, List, ◌++◌, length, vec_items, Vec}
 use Rattle.record.specs.Nodes.{Nodes, bytes_of, Fit}
 use Rattle.record.specs.Numbers.{Bytes, le}
 use Rattle.std.specs.declared.alloc.Global.{Global}

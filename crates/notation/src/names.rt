@@ -1,5 +1,5 @@
 // The names of kinds and marks.
-ghost use Rattle.std.specs.Prelude.{◌≡◌, ℕ, ◌<◌, length, MatchOption, OnOk};
+ghost use Rattle.std.specs.Prelude.{◌≡◌, ℕ, ◌<◌, MatchOption, OnOk};
 ghost use Rattle.notation.specs.Names.{Calls, Unnamed, Called};
 ghost use Rattle.notation.specs.Number.{written};
 ghost use Rattle.notation.specs.Writes.{Adds};

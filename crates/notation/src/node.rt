@@ -1,5 +1,5 @@
 // Nested nodes, one after another, into the bytes of a record.
-ghost use Rattle.std.specs.Prelude.{◌≡◌, ◌≤◌, IfOk, vec_len, OnOk};
+ghost use Rattle.std.specs.Prelude.{◌≤◌, IfOk, vec_len, OnOk};
 ghost use Rattle.notation.specs.Spelt.{Spelt, Put, max_record};
 
 use crate::complaint::What;

@@ -6,8 +6,8 @@ use crate::complaint::{Wanted, What};
 
 // The number that a word of digits writes, if it is at most `most`.
 pub(crate) fn decimal(word: &[u8], most: u32) -> Result<u32, What>
-    ensures ok { IfOk result (λ n. Writes word.now n) }
-    ensures ok_2 { IfOk result (λ n. n ≤ most) }
+    ensures written { IfOk result (λ n. Writes word.now n) }
+    ensures bounded { IfOk result (λ n. n ≤ most) }
 {
     if word.is_empty() {
         return Err(What::Wanted(Wanted::Number));

@@ -1,5 +1,5 @@
 // Texts in quotes, and hexadecimal digits.
-ghost use Rattle.std.specs.Prelude.{◌≡◌, ℕ, ◌+◌, ◌<◌, ◌≤◌, length, IfSome, IfOk, MatchOption, OnOk};
+ghost use Rattle.std.specs.Prelude.{ℕ, ◌+◌, ◌<◌, ◌≤◌, length, IfSome, IfOk, MatchOption, OnOk};
 ghost use Rattle.notation.specs.Quote.{Hex, Escape, Byte, Quoted};
 ghost use Rattle.notation.specs.Quoting.{FirstOf, ReadAs};
 ghost use Rattle.notation.specs.Writes.{Adds};

@@ -111,7 +111,7 @@ fn marks(cursor: &mut Cursor, vocabulary: &Vocabulary) -> Result<u16, What> {
     if cursor.peek().is_none() {
         return Ok(0);
     }
-    if cursor.token() != b"marks" {
+    if cursor.token() != b"marks".as_slice() {
         return Err(What::Wanted(Wanted::Marks));
     }
     let mut set = 0;

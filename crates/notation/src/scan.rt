@@ -1,7 +1,8 @@
 // Lines of a file, and the words, numbers and texts in a line.
-ghost use Rattle.std.specs.Prelude.{◌≡◌, ℕ, ◌+◌, ◌<◌, ◌≤◌, true, length, IfSome, IfOk, MatchBool, MatchOption, OnOk, slice_index};
+ghost use Rattle.std.specs.Prelude.{◌≡◌, ◌+◌, ◌<◌, ◌≤◌, true, length, IfSome, IfOk, MatchBool, MatchOption, OnOk, slice_index};
 ghost use Rattle.std.specs.Result.{result_ok};
-ghost use Rattle.notation.specs.Scan.{LineEnd, Onward, Gave, Went, Passed, TextPassed, last};
+ghost use Rattle.notation.specs.Text.{is_control};
+ghost use Rattle.notation.specs.Scan.{LineEnd, Onward, Gave, ReadOn, Went, Passed, TextPassed, last};
 
 use crate::complaint::{Complaint, Wanted, What};
 use crate::number::decimal;
@@ -27,6 +28,13 @@ pub struct Cursor<'a> {
 
 fn is_blank(b: u8) -> bool {
     matches!(b, b' ' | b'\t' | b'\r')
+}
+
+// A control character is no part of the notation, but for the line end, and the tab and the carriage return, which are blanks.
+pub(crate) fn is_control(b: u8) -> bool
+    ensures { result ≡ is_control b }
+{
+    matches!(b, 0..=8 | 11 | 12 | 14..=31 | 127)
 }
 
 fn is_word(b: u8) -> bool {
@@ -81,7 +89,7 @@ impl<'a> Source<'a> {
     }
 
     // The next line.
-    fn next_line(&mut self) -> Option<Cursor<'a>>
+    pub(crate) fn next_line(&mut self) -> Option<Cursor<'a>>
         ensures { MatchOption result (self.new ≡ self.old) (λ c. Gave self.old self.new) }
     {
         let text = self.text;
@@ -104,7 +112,7 @@ impl<'a> Source<'a> {
 
     // The next line that has more than blanks and a comment.
     pub(crate) fn next(&mut self) -> Option<Cursor<'a>>
-        ensures { IfSome result (λ c. Gave self.old self.new) }
+        ensures { MatchOption result (ReadOn self.old self.new) (λ c. Gave self.old self.new) }
     {
         while let Some(mut cursor) = self.next_line() {
             if cursor.peek().is_some() {
@@ -207,6 +215,20 @@ impl<'a> Cursor<'a> {
         }
         self.at = end + 1;
         Ok(bytes)
+    }
+
+    // Refuses a line that is not UTF-8 or has a control character.
+    pub(crate) fn check_line(&mut self) -> Result<(), What> {
+        for (at, b) in self.bytes.iter().enumerate() {
+            if is_control(*b) {
+                self.start = at;
+                return Err(What::ControlCharacter);
+            }
+        }
+        match std::str::from_utf8(self.bytes) {
+            Ok(_) => Ok(()),
+            Err(_) => Err(What::NotUtf8),
+        }
     }
 
     // The column of what was looked at last, counted in characters from 1.

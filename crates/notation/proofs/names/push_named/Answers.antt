@@ -6,8 +6,8 @@ use Rattle.notation.proofs.names.push_named.Goals as goal
 
 pub returns-in-Some : goal.returns-in-Some
 returns-in-Some c =
-    adds_made c.extend-from-slice.result _ _ c.in-Some.word.now (Called c.args.names.now c.args.number) (inl c.in-Some.ensures) c.extend-from-slice.ensures.items
+    adds_made c.extend_from_slice.result _ _ c.in-Some.word.now (Called c.args.names.now c.args.number) (inl c.in-Some.ensures) c.extend_from_slice.ensures.items
 
 pub returns-in-None : goal.returns-in-None
 returns-in-None c =
-    made_adds_weaker _ _ (λ p. p ≡ written c.args.number) c.push-number.result (Called c.args.names.now c.args.number) (λ p e. inr (c.in-None.ensures, e)) c.push-number.ensures
+    made_adds_weaker _ _ (λ p. p ≡ written c.args.number) c.push_number.result (Called c.args.names.now c.args.number) (λ p e. inr (c.in-None.ensures, e)) c.push_number.ensures

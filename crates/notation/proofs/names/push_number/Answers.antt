@@ -5,5 +5,5 @@ use Rattle.notation.proofs.names.push_number.Goals as goal
 
 pub returns : goal.returns
 returns c =
-    let e : c.as-bytes.result.now ≡ written c.args.number = search rules in
-    adds_made c.extend-from-slice.result _ _ c.as-bytes.result.now (λ p. p ≡ written c.args.number) e c.extend-from-slice.ensures.items
+    let e : c.as_bytes.result.now ≡ written c.args.number = search rules in
+    adds_made c.extend_from_slice.result _ _ c.as_bytes.result.now (λ p. p ≡ written c.args.number) e c.extend_from_slice.ensures.items

@@ -12,7 +12,7 @@ loop-digit-preserved c =
     )
 
 pub returns : goal.returns
-returns c = (
-  writes_all c.args.word.now c.loop-digit.digit-index c.loop-digit.number (search rules) (search rules) c.loop-digit.invariant.1 c.loop-digit.invariant.2,
-  search rules,
-)
+returns c = record {
+  written = writes_all c.args.word.now c.loop-digit.digit-index c.loop-digit.number (search rules) (search rules) c.loop-digit.invariant.1 c.loop-digit.invariant.2;
+  bounded = search rules;
+}

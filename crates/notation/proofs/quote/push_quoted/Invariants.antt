@@ -1,4 +1,4 @@
-use Rattle.std.proofs.Common.{◌≡◌, ◌∷◌, take}
+use Rattle.std.proofs.Common.{take}
 use Rattle.notation.specs.Quote.{Spells}
 use Rattle.notation.specs.Writes.{Adds}
 use Rattle.notation.proofs.quote.push_quoted.Given as goal

@@ -1,4 +1,4 @@
-use Rattle.std.proofs.Common.{vec_items, arith, rules}
+use Rattle.std.proofs.Common.{vec_items, rules}
 use Rattle.std.proofs.lemmas.List.{take_rest}
 use Rattle.notation.proofs.Quoted.{spells_more, spells_nothing}
 use Rattle.notation.proofs.quote.unquote.Goals as goal
@@ -10,5 +10,5 @@ pub loop-piece-preserved : goal.loop-piece-preserved
 loop-piece-preserved c = (
   search rules,
   search rules,
-  spells_more c.args.line.now c.args.from c.loop-piece.end c.in-Some.piece _ (vec_items c.loop-piece.bytes) _ c.loop-piece.invariant.0 (take_rest c.args.line.now c.loop-piece.end) c.loop-piece.invariant.2 c.in-Some.ensures c.in-ok-push.ensures.items,
+  spells_more c.args.line.now c.args.from c.loop-piece.end c.in-Some.piece _ (vec_items c.loop-piece.bytes) _ c.loop-piece.invariant.0 (take_rest c.args.line.now c.loop-piece.end) c.loop-piece.invariant.2 c.in-Some.ensures c.in_ok-push.ensures.items,
 )

@@ -1,0 +1,160 @@
+// Rules and records as a box file has them.
+use crate::names::{push_named, push_number};
+use crate::quote::push_quoted;
+use crate::value::{ClassText, Name, RuleText, StepText, Vocabulary};
+use record::index::Entry as Place;
+use record::text::text;
+use std::alloc::{AllocError, Global};
+
+// Writes the members of a set, by their names, with something between them.
+fn push_members(
+    heap: Global,
+    out: &mut Vec<u8>,
+    set: u64,
+    names: &[Name],
+    between: &[u8],
+) -> Result<(), AllocError> {
+    let mut first = true;
+    for member in 0..64 {
+        if set >> member & 1 == 1 {
+            if !first {
+                out.extend_from_slice(between)?;
+            }
+            first = false;
+            push_named(heap, out, names, member)?;
+        }
+    }
+    Ok(())
+}
+
+// Writes a class.
+fn push_class(
+    heap: Global,
+    out: &mut Vec<u8>,
+    class: ClassText,
+    kinds: &[Name],
+) -> Result<(), AllocError> {
+    match class {
+        ClassText::Mask(bits) => {
+            out.push(b'{')?;
+            push_members(heap, out, bits, kinds, b", ")?;
+            out.push(b'}')?;
+            Ok(())
+        }
+        ClassText::Range { first, last } => {
+            push_named(heap, out, kinds, first)?;
+            if first != last {
+                out.extend_from_slice(b"..")?;
+                push_named(heap, out, kinds, last)?;
+            }
+            Ok(())
+        }
+    }
+}
+
+// Writes a rule.
+pub(crate) fn push_rule(
+    heap: Global,
+    out: &mut Vec<u8>,
+    rule: RuleText,
+    vocabulary: &Vocabulary,
+) -> Result<(), AllocError> {
+    let from = rule.from as u16;
+    let to = rule.to as u16;
+    match rule.step {
+        StepText::Empty => {
+            out.extend_from_slice(b"empty ")?;
+            push_number(heap, out, from)?;
+            out.extend_from_slice(b" ")?;
+            push_number(heap, out, to)
+        }
+        StepText::Node {
+            class,
+            inside,
+            marks,
+        } => {
+            out.extend_from_slice(b"rule ")?;
+            push_number(heap, out, from)?;
+            out.extend_from_slice(b":")?;
+            push_class(heap, out, class, &vocabulary.kinds)?;
+            out.extend_from_slice(b"[")?;
+            push_number(heap, out, inside as u16)?;
+            out.extend_from_slice(b"]")?;
+            push_number(heap, out, to)?;
+            if marks != 0 {
+                out.extend_from_slice(b" marks ")?;
+                push_members(heap, out, marks as u64, &vocabulary.marks, b" ")?;
+            }
+            Ok(())
+        }
+    }
+}
+
+// Begins a line so many levels deep.
+fn push_indent(out: &mut Vec<u8>, levels: usize) -> Result<(), AllocError> {
+    for _ in 0..levels {
+        out.extend_from_slice(b"  ")?;
+    }
+    out.extend_from_slice(b"  ")
+}
+
+// Closes the nodes that end before an offset.
+fn close(out: &mut Vec<u8>, ends: &mut Vec<usize>, offset: usize) -> Result<(), AllocError> {
+    while let Some(end) = ends.last() {
+        if offset < *end {
+            return Ok(());
+        }
+        ends.pop();
+        push_indent(out, ends.len())?;
+        out.extend_from_slice(b"}\n")?;
+    }
+    Ok(())
+}
+
+// Writes the line of a node.
+fn push_node(
+    heap: Global,
+    out: &mut Vec<u8>,
+    bytes: &[u8],
+    place: &Place,
+    kinds: &[Name],
+) -> Result<(), AllocError> {
+    push_named(heap, out, kinds, place.node.kind)?;
+    match text(bytes, place.offset) {
+        Ok([]) | Err(_) => {}
+        Ok(words) => {
+            out.push(b' ')?;
+            push_quoted(out, words)?;
+        }
+    }
+    if place.node.inside != 0 {
+        out.extend_from_slice(b" {")?;
+    }
+    out.extend_from_slice(b"\n")
+}
+
+// Writes a record as nested nodes; `list` up to `top` is its index.
+pub(crate) fn push_record(
+    heap: Global,
+    out: &mut Vec<u8>,
+    name: &str,
+    bytes: &[u8],
+    list: &[Place],
+    top: usize,
+    vocabulary: &Vocabulary,
+) -> Result<(), AllocError> {
+    out.extend_from_slice(b"record ")?;
+    out.extend_from_slice(name.as_bytes())?;
+    out.extend_from_slice(b"\n")?;
+    let mut ends: Vec<usize> = Vec::new(heap);
+    for place in list.iter().take(top).rev() {
+        close(out, &mut ends, place.offset)?;
+        push_indent(out, ends.len())?;
+        push_node(heap, out, bytes, place, &vocabulary.kinds)?;
+        if place.node.inside != 0 {
+            ends.push(place.offset.saturating_add(place.size))?;
+        }
+    }
+    close(out, &mut ends, usize::MAX)?;
+    out.extend_from_slice(b"end\n")
+}

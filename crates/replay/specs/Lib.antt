@@ -1,0 +1,4 @@
+pub mod Came
+pub mod Stop
+pub mod Work
+pub mod Written
