@@ -1,37 +1,20 @@
 // A small box, worked from lay to seal: `archive example`.
 use boxes::fault::Fault;
+use boxes::limits::SCRATCH_NEEDS;
 use boxes::promise::promise;
 use boxes::shelf::{PatternEntry, RecordEntry, Shelf, Spot};
+use boxes::stage::find::Formed;
 use boxes::stage::locate::Query;
 use boxes::stage::{LaidBox, NewBox, SealedBox};
-use examine::line::{Line, LineStep};
+use examine::line::Line;
+use examine::size::most_lines;
 use record::index::Entry;
-use record::run::Node;
+use record::limits::MAX_NODES;
 use std::alloc::Global;
 use std::fmt::Write;
 use table::mask::Mask;
 use table::rule::{Rule, Step};
 use table::table::Table;
-
-const NO_ENTRY: Entry = Entry {
-    node: Node {
-        kind: 0,
-        inside: 0,
-        after: 0,
-    },
-    offset: 0,
-    size: 0,
-};
-
-const NO_LINE: Line = Line {
-    form: 0,
-    first: 0,
-    second: 0,
-    run: None,
-    step: LineStep::Stop,
-};
-
-const NO_SPOT: Spot = Spot { offset: 0, size: 0 };
 
 // One node of kind 2 with the text "12".
 const D: [u8; 10] = [6, 0, 0, 0, 2, 0, 2, 0, 0x31, 0x32];
@@ -76,9 +59,9 @@ fn found(
     shelf: &Shelf<Mask>,
     mark: u8,
 ) -> anyhow::Result<String> {
-    let mut list = vec![in heap; NO_ENTRY; 1024]?;
-    let mut scratch = vec![in heap; 0u64; 3075]?;
-    let mut spots = [NO_SPOT; 4];
+    let mut list = vec![in heap; Entry::default(); MAX_NODES]?;
+    let mut scratch = vec![in heap; 0u64; SCRATCH_NEEDS]?;
+    let mut spots = [Spot::default(); 4];
     let query = Query {
         pattern: 0,
         record: 0,
@@ -102,10 +85,12 @@ fn found(
 
 // Admits the pattern, files the record, seals the box and asks for two marks.
 fn fill(heap: Global, laid: LaidBox, shelf: &mut Shelf<Mask>) -> anyhow::Result<String> {
-    let mut sheet = vec![in heap; NO_LINE; 55]?;
-    let mut helper = vec![in heap; 0u32; 55]?;
-    let mut list = vec![in heap; NO_ENTRY; 1024]?;
-    let mut scratch = vec![in heap; 0u64; 3075]?;
+    // the form has states 0 and 1, the pattern 0 to 2
+    let lines = most_lines(2, 3);
+    let mut sheet = vec![in heap; Line::default(); lines]?;
+    let mut helper = vec![in heap; 0u32; lines]?;
+    let mut list = vec![in heap; Entry::default(); MAX_NODES]?;
+    let mut scratch = vec![in heap; 0u64; SCRATCH_NEEDS]?;
     let rules = pattern_rules();
     let pattern = Table {
         starts: 1,
@@ -135,13 +120,8 @@ pub(crate) fn tell(heap: Global) -> anyhow::Result<String> {
     promise::<Mask>();
     let blank = rule(0, 1, 0, 0, 0);
     let mut rules = [blank; 8];
-    let mut patterns = [PatternEntry {
-        first: 0,
-        count: 0,
-        starts: 0,
-        finals: 0,
-    }; 2];
-    let mut records = [RecordEntry { first: 0, count: 0 }; 2];
+    let mut patterns = [PatternEntry::default(); 2];
+    let mut records = [RecordEntry::default(); 2];
     let mut bytes = [0u8; 64];
     let mut shelf = Shelf {
         rules: &mut rules,

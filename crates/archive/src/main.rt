@@ -20,33 +20,29 @@ const USAGE: &str = "usage: archive show FILE
   example     lay a form, admit a pattern, file a record, seal the box
               and find the marked nodes, and say what was done";
 
-fn run(rt: &HostRuntime) -> anyhow::Result<bool> {
+fn run(rt: &HostRuntime) -> anyhow::Result<ExitCode> {
     let mut args = env::args(rt)?.skip(1);
     let (command, file, more) = (args.next(), args.next(), args.next());
     match (&command, &file, &more) {
         (None, _, _) => {
             println!(rt; "{USAGE}")?;
-            Ok(true)
+            Ok(ExitCode::SUCCESS)
         }
-        (Some(command), Some(file), None) if command.as_str() == "show" => {
-            Ok(show(rt, file.as_str())?)
-        }
+        (Some(command), Some(file), None) if command.as_str() == "show" => show(rt, file.as_str()),
         (Some(command), None, _) if command.as_str() == "example" => {
             rt.print(tell(rt.alloc())?.as_str())?;
-            Ok(true)
+            Ok(ExitCode::SUCCESS)
         }
         _ => {
             eprintln!(rt; "{USAGE}")?;
-            Ok(false)
+            Ok(ExitCode::FAILURE)
         }
     }
 }
 
 fn main(rt: HostRuntime) -> anyhow::Result<ExitCode> {
     match run(&rt) {
-        Ok(true) => Ok(ExitCode::SUCCESS),
-        // what was wrong has been said
-        Ok(false) => Ok(ExitCode::FAILURE),
+        Ok(status) => Ok(status),
         Err(error) => {
             eprintln!(rt; "archive: {error}")?;
             Ok(ExitCode::FAILURE)

@@ -1,43 +1,27 @@
 // `archive show FILE`.
-use crate::refusal::explain;
+use crate::refusal::Explanation;
 use crate::tree::draw;
 use record::index::{Entry, index};
 use record::limits::{MAX_BYTES, MAX_NODES};
-use record::run::Node;
 use std::alloc::Global;
 use std::fs::File;
 use std::io;
 use std::io::Read;
-
-const BLANK: Entry = Entry {
-    node: Node {
-        kind: 0,
-        inside: 0,
-        after: 0,
-    },
-    offset: 0,
-    size: 0,
-};
-
-// What is to be printed of a record file, and whether it is a record.
-#[derive(Drop)]
-pub struct Picture {
-    pub text: String,
-    pub is_record: bool,
-}
+use std::process::ExitCode;
 
 // The record drawn as a tree, or the sentence that says why the bytes are none.
-pub(crate) fn render(heap: Global, name: &str, bytes: &[u8]) -> anyhow::Result<Picture> {
-    let mut list = vec![in heap; BLANK; MAX_NODES]?;
+pub(crate) fn render(
+    heap: Global,
+    name: &str,
+    bytes: &[u8],
+) -> anyhow::Result<Result<String, String>> {
+    let mut list = vec![in heap; Entry::default(); MAX_NODES]?;
     match index(bytes, &mut list) {
-        Ok(top) => Ok(Picture {
-            text: draw(heap, name, bytes, &list, top)?,
-            is_record: true,
-        }),
-        Err(fault) => Ok(Picture {
-            text: explain(heap, name, bytes, &fault)?,
-            is_record: false,
-        }),
+        Ok(top) => Ok(Ok(draw(heap, name, bytes, list.get(..top).unwrap_or_default())?)),
+        Err(fault) => {
+            let explanation = Explanation { name, bytes, fault };
+            Ok(Err(explanation.to_string(heap)?))
+        }
     }
 }
 
@@ -49,21 +33,23 @@ fn read(rt: &HostRuntime, name: &str) -> io::Result<Vec<u8>> {
     Ok(bytes)
 }
 
-// Prints what a record file holds, and answers whether it is a record.
-pub(crate) fn show(rt: &HostRuntime, name: &str) -> anyhow::Result<bool> {
-    match read(rt, name) {
-        Ok(bytes) => {
-            let shown = render(rt.alloc(), name, &bytes)?;
-            if shown.is_record {
-                rt.print(shown.text.as_str())?;
-            } else {
-                rt.eprint(shown.text.as_str())?;
-            }
-            Ok(shown.is_record)
-        }
+// Prints what a record file holds; a failure if it holds no record or cannot be read.
+pub(crate) fn show(rt: &HostRuntime, name: &str) -> anyhow::Result<ExitCode> {
+    let bytes = match read(rt, name) {
+        Ok(bytes) => bytes,
         Err(error) => {
             eprintln!(rt; "archive: {name} cannot be read: {error}")?;
-            Ok(false)
+            return Ok(ExitCode::FAILURE);
+        }
+    };
+    match render(rt.alloc(), name, &bytes)? {
+        Ok(tree) => {
+            rt.print(tree.as_str())?;
+            Ok(ExitCode::SUCCESS)
+        }
+        Err(sentence) => {
+            rt.eprint(sentence.as_str())?;
+            Ok(ExitCode::FAILURE)
         }
     }
 }

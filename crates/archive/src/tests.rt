@@ -8,9 +8,11 @@ fn a_record_is_drawn(rt: HostRuntime) -> Result<(), Fail> {
         16, 0, 0, 0, 1, 0, 2, 0, 0x41, 7, 6, 0, 0, 0, 2, 0, 2, 0, 0x31, 0xff,
     ];
     let shown = render(rt.alloc(), "r", &bytes)?;
-    assert!(rt; shown.is_record);
+    let Ok(tree) = shown else {
+        return Err(Fail::new("no tree is drawn"));
+    };
     assert_eq!(rt;
-        shown.text.as_str(),
+        tree.as_str(),
         "r is a record: 20 bytes, 2 nodes, 2 levels.\nkind 1, offset 0, 20 bytes: \"A\\u{7}\"\n└─ kind 2, offset 10, 10 bytes: \"1\\xff\"\n"
     );
     Ok(())
@@ -19,14 +21,15 @@ fn a_record_is_drawn(rt: HostRuntime) -> Result<(), Fail> {
 #[test]
 fn a_stray_byte_is_explained(rt: HostRuntime) -> Result<(), Fail> {
     let shown = render(rt.alloc(), "r", &[4, 0, 0, 0, 1, 0, 0, 0, 9])?;
-    assert!(rt; !shown.is_record);
+    let Err(sentence) = shown else {
+        return Err(Fail::new("a tree is drawn"));
+    };
     assert!(rt;
-        shown
-            .text
+        sentence
             .as_str()
             .starts_with("r is refused by number 2 (layer record, place 8): ")
     );
-    assert!(rt; shown.text.as_str().ends_with("The bytes there are 09.\n"));
+    assert!(rt; sentence.as_str().ends_with("The bytes there are 09.\n"));
     Ok(())
 }
 

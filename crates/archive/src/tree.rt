@@ -1,7 +1,8 @@
 // A record drawn as a tree, one node a line.
 use record::index::Entry;
 use record::text::text;
-use std::alloc::{AllocError, Global};
+use std::alloc::Global;
+use std::fmt;
 use std::fmt::Write;
 
 // A node on the way down to the present one: where it ends, and whether it is the last of its run.
@@ -11,79 +12,77 @@ struct Branch {
     last: bool,
 }
 
-// Leaves the nodes that end before an offset.
-fn leave(open: &mut Vec<Branch>, offset: usize) {
-    while let Some(branch) = open.last() {
-        if offset < branch.end {
-            return;
+// The lines that lead down to a node, which is the last of `open`: nothing at the outermost level.
+#[derive(Clone, Copy)]
+struct Stem<'a> {
+    open: &'a [Branch],
+}
+
+impl<'a> fmt::Display for Stem<'a> {
+    fn fmt<W: fmt::Write>(&self, f: &mut fmt::Formatter<W>) -> fmt::Result {
+        let [_, below @ ..] = self.open else {
+            return Ok(());
+        };
+        let Some((here, above)) = below.split_last() else {
+            return Ok(());
+        };
+        for branch in above {
+            f.write_str(if branch.last { "   " } else { "│  " })?;
         }
-        open.pop();
+        f.write_str(if here.last { "└─ " } else { "├─ " })
     }
 }
 
-// The lines that lead down to a node: nothing at the outermost level.
-fn push_stem(out: &mut String, open: &[Branch], last: bool) -> Result<(), AllocError> {
-    for branch in open.iter().skip(1) {
-        out.push_str(if branch.last { "   " } else { "│  " })?;
-    }
-    if !open.is_empty() {
-        out.push_str(if last { "└─ " } else { "├─ " })?;
-    }
-    Ok(())
+// A node's text in quotes: as it is where it is printable, and with other bytes escaped. Nothing for an empty text.
+#[derive(Clone, Copy)]
+struct Quoted<'a> {
+    bytes: &'a [u8],
 }
 
-// A node's text in quotes: as it is where it is printable, and with other bytes escaped.
-fn push_text(out: &mut String, bytes: &[u8]) -> Result<(), AllocError> {
-    match std::str::from_utf8(bytes) {
-        Ok(text) => write!(out, "\"{}\"", text.escape_debug()),
-        Err(_) => write!(out, "\"{}\"", bytes.escape_ascii()),
-    }
-}
-
-// The line of one node.
-fn push_node(out: &mut String, bytes: &[u8], entry: &Entry) -> Result<(), AllocError> {
-    let kind = entry.node.kind;
-    let offset = entry.offset;
-    let size = entry.size;
-    write!(out, "kind {kind}, offset {offset}, {size} bytes")?;
-    match text(bytes, offset) {
-        Ok([]) => {}
-        Ok(words) => {
-            out.push_str(": ")?;
-            push_text(out, words)?;
+impl<'a> fmt::Display for Quoted<'a> {
+    fn fmt<W: fmt::Write>(&self, f: &mut fmt::Formatter<W>) -> fmt::Result {
+        if self.bytes.is_empty() {
+            return Ok(());
         }
-        Err(_) => {}
+        match std::str::from_utf8(self.bytes) {
+            Ok(text) => write!(f, ": \"{}\"", text.escape_debug()),
+            Err(_) => write!(f, ": \"{}\"", self.bytes.escape_ascii()),
+        }
     }
-    out.push('\n')
 }
 
-// The record with the index `list` up to `top`, under a line that says how large it is.
+// The record with the index `nodes`, under a line that says how large it is.
 pub(crate) fn draw(
     heap: Global,
     name: &str,
     bytes: &[u8],
-    list: &[Entry],
-    top: usize,
+    nodes: &[Entry],
 ) -> anyhow::Result<String> {
     let mut tree = String::new(heap);
     let mut open: Vec<Branch> = Vec::new(heap);
     let mut levels = 0;
-    for entry in list.iter().take(top).rev() {
-        leave(&mut open, entry.offset);
-        let last = entry.node.after == 0;
-        push_stem(&mut tree, &open, last)?;
-        push_node(&mut tree, bytes, entry)?;
+    for entry in nodes.iter().rev() {
+        let Entry { node, offset, size } = *entry;
+        let around = open.iter().take_while(|branch| offset < branch.end).count();
+        open.truncate(around);
         open.push(Branch {
-            end: entry.offset.saturating_add(entry.size),
-            last,
+            end: offset.saturating_add(size),
+            last: node.after == 0,
         })?;
         levels = open.len().max(levels);
+        let stem = Stem { open: &open };
+        let words = Quoted {
+            bytes: text(bytes, offset).unwrap_or_default(),
+        };
+        let kind = node.kind;
+        writeln!(
+            tree,
+            "{stem}kind {kind}, offset {offset}, {size} bytes{words}"
+        )?;
     }
     let size = bytes.len();
-    let head = format!(in heap;
-        "{name} is a record: {size} bytes, {top} nodes, {levels} levels.\n"
-    )?;
-    let mut all = head;
-    all.push_str(tree.as_str())?;
-    Ok(all)
+    let count = nodes.len();
+    Ok(format!(in heap;
+        "{name} is a record: {size} bytes, {count} nodes, {levels} levels.\n{tree}"
+    )?)
 }

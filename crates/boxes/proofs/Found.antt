@@ -1,7 +1,8 @@
 -- What find answers, from where its pattern and record stand and from the reading that was noted.
-use Rattle.std.proofs.Common.{◌≡◌, ℕ, suc, ◌<◌, ◌≤◌, Bool, List, [], ◌∷◌, ◌++◌, map, length, drop, sym, refl, ap, ◌∙◌, subst₂, inl, inr, arith}
+use Rattle.std.proofs.Common.{◌≡◌, ℕ, ◌<◌, ◌≤◌, Bool, List, [], ◌∷◌, ◌++◌, map, length, count_by, drop, sym, refl, ap, ◌∙◌, subst, subst₂, inl, inr, arith}
+use Rattle.std.proofs.lemmas.List.{length-map}
 use Rattle.record.specs.declared.index.Entry.{Entry}
-use Rattle.table.specs.Table.{Tab}
+use Rattle.table.specs.Table.{Tab, tab}
 use Rattle.table.specs.Marks.{picked, noted}
 use Rattle.boxes.specs.declared.fault.Cause.TheVariants.{ShortList}
 use Rattle.boxes.specs.declared.fault.Fault.{Fault}
@@ -13,6 +14,8 @@ use Rattle.boxes.specs.Shelf.{World, pattern_entry, record_entry, pattern_at, re
 use Rattle.boxes.specs.Record.{Read, spots}
 use Rattle.boxes.specs.Calls.{locate_checks, read_checks, list_check, find_checks, Listed}
 use Rattle.boxes.specs.Listing.{spot_at}
+use Rattle.std.specs.List.{range_with_len}
+use Rattle.boxes.proofs.Noting.{count_places}
 use Rattle.boxes.specs.Locate.{LocatedAs, ReadOnce}
 
 fails_first : (xs ys : List Check) (f : Fault) → Fails xs f → Fails (xs ++ ys) f
@@ -28,20 +31,23 @@ passes_both : (xs ys : List Check) → Passes xs → Passes ys → Passes (xs ++
 passes_both [] ys p q = q
 passes_both (x ∷ xs) ys p q = (p.0, passes_both xs ys p.1 q)
 
-length_map : {X Y : Type 0} (f : X → Y) (xs : List X) → length (map f xs) ≡ length xs
-length_map f [] = refl
-length_map f (x ∷ xs) = ap suc (length_map f xs)
+-- the same box and shelf under another name
+located_there : {C : Type 0} {v w : World C} {p r m : ℕ} {l : Located C} → v ≡ w → LocatedAs v p r m l → LocatedAs w p r m l
+located_there {p = p} {r = r} {m = m} {l = l} e = subst (λ w. LocatedAs w p r m l) e
 
-module _ {C : Type 0} (kinds : C → ℕ → Bool) (w : World C) (p r m index scratch : ℕ) (out : List Spot) {loc : Located} (l : LocatedAs w p r m loc) where
+module _ {C : Type 0} (kinds : C → ℕ → Bool) (w : World C) (p r m index scratch : ℕ) (out : List Spot) {v : World C} (is : v ≡ w) {loc : Located C} (found : LocatedAs v p r m loc) where
+  l : LocatedAs w p r m loc
+  l = located_there is found
+
   abbrev P : Tab C
-  P = pattern_at w.shelf loc.pattern
+  P = tab loc.pattern
 
   abbrev bytes : List ℕ
-  bytes = record_at w.shelf loc.record
+  bytes = loc.bytes.now
 
   -- the entries are those of the numbers asked for
   there : (Q : Tab C → List ℕ → Type 0) → Q P bytes → Q (pattern_at w.shelf (pattern_entry w.shelf p)) (record_at w.shelf (record_entry w.shelf r))
-  there Q = subst₂ Q (ap (pattern_at w.shelf) l.pattern_is) (ap (record_at w.shelf) l.record_is)
+  there Q = subst₂ Q l.pattern_is l.bytes_is
 
   abbrev rest : Tab C → List ℕ → List Check
   rest T b = read_checks kinds T b index scratch ++ list_check kinds T b m out ∷ []
@@ -54,9 +60,9 @@ module _ {C : Type 0} (kinds : C → ℕ → Bool) (w : World C) (p r m index sc
   unread f h =
       fails_then (locate_checks w p r m) asked f l.passes (there (λ T b. Fails (rest T b) f) (fails_first (read_checks kinds P bytes index scratch) (list_check kinds P bytes m out ∷ []) f h))
 
-  module _ {list : List Entry} {sets : List ℕ} {top count : ℕ} (h : ReadOnce kinds P bytes index scratch list sets top) (c : count ≡ length (picked (noted sets m) 0 top)) where
+  module _ {list : List Entry} {sets : List ℕ} {top count : ℕ} (h : ReadOnce kinds P bytes index scratch list sets top) (c : count ≡ count_by (noted sets m) (range_with_len 1 top)) where
     counted : (x : Read kinds P bytes) → count ≡ length (spots m x)
-    counted x = c ∙ (sym (length_map (spot_at list) (picked (noted sets m) 0 top)) ∙ ap length (h.lists m x))
+    counted x = c ∙ count_places (noted sets m) top ∙ (sym (length-map (picked (noted sets m) 0 top) (spot_at list)) ∙ ap length (h.lists m x))
 
     reading : Read kinds P bytes
     reading = h.passes.1.1.1.0

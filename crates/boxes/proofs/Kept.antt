@@ -84,15 +84,12 @@ module _ {C : Type 0} (kinds : C → ℕ → Bool) where
   with_more : {A : Type 0} (Q : A → Type 0) (xs : List A) (x : A) → ((i : ℕ) (y : A) → At xs i y → Q y) → Q x → (i : ℕ) (y : A) → At (xs ++ x ∷ []) i y → Q y
   with_more Q xs x each here i y h = elim (at_push xs x i y h) [ inl a ↦ each i y a | inr e ↦ subst Q e here ]
 
-  joined_push : {X A : Type 0} (f : X → List A) (front : List A) (xs : List X) (x : X) → (front ++ flat_map f xs) ++ f x ≡ front ++ flat_map f (xs ++ x ∷ [])
-  joined_push f front xs x = flat_map_more f front xs x
-
   kept_admitted : (b : Book C) (w : World C) (k : Kept b w.box w.shelf) (P : Tab C)
       → (length w.shelf.rules < w.box.rules + length P.rules → ⊥)
       → ((max_patterns ≤ w.box.patterns) ⊎ (length w.shelf.patterns < w.box.patterns + 1) → ⊥)
       → (table_check Pattern P).passes
       → (Twofold kinds k.F P → ⊥)
-      → Kept (record { form = b.form; patterns = b.patterns ++ P ∷ []; records = b.records }) (admitted w P 0 0).box (admitted w P 0 0).shelf
+      → Kept (record b { patterns = b.patterns ++ P ∷ [] }) (admitted w P 0 0).box (admitted w P 0 0).shelf
   kept_admitted b w k P room places good never =
       let all = k.F.rules ++ flat_map rules_of b.patterns in
       let n : length all ≡ w.box.rules = used_count w.box.rules w.shelf.rules all k.rules in
@@ -105,7 +102,7 @@ module _ {C : Type 0} (kinds : C → ℕ → Bool) where
         finals = k.finals;
         rules =
             subst (Used (w.box.rules + length P.rules) (written w.box.rules P.rules w.shelf.rules))
-            (joined_push rules_of k.F.rules b.patterns P)
+            (flat_map_more rules_of k.F.rules b.patterns P)
             (used_more w.box.rules w.shelf.rules all P.rules k.rules (omega arith));
         patterns =
             subst (Used (w.box.patterns + 1) (written w.box.patterns (pattern_written w.box.rules P ∷ []) w.shelf.patterns))
@@ -124,7 +121,7 @@ module _ {C : Type 0} (kinds : C → ℕ → Bool) where
       → ((max_records ≤ w.box.records) ⊎ (length w.shelf.records < w.box.records + 1) → ⊥)
       → (length w.shelf.bytes < w.box.bytes + length bytes → ⊥)
       → Read kinds k.F bytes
-      → Kept (record { form = b.form; patterns = b.patterns; records = b.records ++ bytes ∷ [] }) (filed kinds w bytes 0 0).box (filed kinds w bytes 0 0).shelf
+      → Kept (record b { records = b.records ++ bytes ∷ [] }) (filed kinds w bytes 0 0).box (filed kinds w bytes 0 0).shelf
   kept_filed b w k bytes places room fit =
       let n : length (flat_map itself b.records) ≡ w.box.bytes = used_count w.box.bytes w.shelf.bytes (flat_map itself b.records) k.bytes in
       let one : length w.shelf.records < w.box.records + 1 → ⊥ = λ l. places (inr l) in
@@ -143,7 +140,7 @@ module _ {C : Type 0} (kinds : C → ℕ → Bool) where
             (used_more w.box.records w.shelf.records _ (record_written w.box.bytes bytes ∷ []) k.records (omega arith));
         bytes =
             subst (Used (w.box.bytes + length bytes) (written w.box.bytes bytes w.shelf.bytes))
-            (joined_push itself [] b.records bytes)
+            (flat_map_more itself [] b.records bytes)
             (used_more w.box.bytes w.shelf.bytes (flat_map itself b.records) bytes k.bytes (omega arith));
         sound = k.sound;
         never = k.never;
@@ -165,21 +162,21 @@ module _ {C : Type 0} (kinds : C → ℕ → Bool) where
   history_kept (lays {es = es} {shelf = shelf} h F (Ok box) l) =
       let e = history_kept h in
       let k = kept_laid F shelf l.0.1.0 in
-      subst₂ (λ (x : Box) (s : Shelf C). Kept (record { form = some F; patterns = (book es).patterns; records = (book es).records }) x s) (sym l.1.0) (sym l.1.1)
+      subst₂ (λ (x : Box) (s : Shelf C). Kept (record (book es) { form = some F }) x s) (sym l.1.0) (sym l.1.1)
       (subst₂ (λ (ps : List (Tab C)) (rs : List (List ℕ)). Kept (record { form = some F; patterns = ps; records = rs }) (box_laid F shelf) (shelf_laid F shelf)) (sym e.0) (sym e.1) k)
   history_kept (admits {es = es} h P sheet helper lines (Err f) after x) = subst (In (book es)) (sym x.1) (history_kept h)
   history_kept (admits {es = es} {box = box} {shelf = shelf} h P sheet helper lines (Ok u) after x) =
       let k = history_kept h in
       let c = x.0 in
       let never : Twofold kinds k.F P → ⊥ = subst (λ (F : Tab C). Twofold kinds F P → ⊥) (form_kept (book es) box shelf k) c.1.1.1.1.1.0 in
-      subst (In (record { form = (book es).form; patterns = (book es).patterns ++ P ∷ []; records = (book es).records })) (sym x.1)
+      subst (In (record (book es) { patterns = (book es).patterns ++ P ∷ [] })) (sym x.1)
       (kept_admitted (book es) (record { box = box; shelf = shelf }) k P c.1.1.1.1.0.0 c.1.1.1.1.0.1.0 c.1.1.0 never)
   history_kept (files {es = es} h bytes index scratch (Err f) after x) = subst (In (book es)) (sym x.1) (history_kept h)
   history_kept (files {es = es} {box = box} {shelf = shelf} h bytes index scratch (Ok u) after x) =
       let k = history_kept h in
       let c = x.0 in
       let fit : Read kinds k.F bytes = subst (λ (F : Tab C). Read kinds F bytes) (form_kept (book es) box shelf k) c.1.1.1.1.1.0 in
-      subst (In (record { form = (book es).form; patterns = (book es).patterns; records = (book es).records ++ bytes ∷ [] })) (sym x.1)
+      subst (In (record (book es) { records = (book es).records ++ bytes ∷ [] })) (sym x.1)
       (kept_filed (book es) (record { box = box; shelf = shelf }) k bytes c.1.1.1.1.0.0 c.1.1.1.1.0.1.0 fit)
   history_kept (finds h p r m index scratch out (Err f) after x) = history_kept h
   history_kept (finds h p r m index scratch out (Ok n) after x) = history_kept h

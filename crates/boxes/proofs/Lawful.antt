@@ -1,6 +1,6 @@
 -- No check both fails and passes, and none gives two faults.
 use Rattle.std.proofs.Common.{◌≡◌, ℕ, ◌+◌, ◌*◌, ◌≤◌, List, [], ◌∷◌, ◌++◌, Ok, Err, Result, sym, refl, ap, ◌∙◌, subst, inl, inr, le_antisymm, arith}
-use Rattle.record.specs.declared.fault.Fault.{Fault as RecordFault}
+use Rattle.record.specs.Fault.{Fault as RecordFault}
 use Rattle.record.proofs.Verdict.{one_verdict}
 use Rattle.table.specs.declared.fault.Fault.{Fault as TableFault}
 use Rattle.table.specs.Sets.{Extent}
@@ -27,9 +27,6 @@ module _ {R E : Type 0} where
 
   pub answers_apart : (a : Result R E) (f : E) (r : R) → a ≡ Err f → a ≡ Ok r → ⊥
   answers_apart a f r x y = subst tells (sym x ∙ y) tt
-
-  pub same_refusal : (a : Result R E) (f g : E) → a ≡ Err f → a ≡ Err g → f ≡ g
-  same_refusal a f g x y = cc
 
   pub same_error : (f g : E) → ◌≡◌ {A = Result R E} (Err f) (Err g) → f ≡ g
   same_error f g e = cc

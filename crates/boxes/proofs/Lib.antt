@@ -3,6 +3,7 @@ pub mod Single
 pub mod Lawful
 pub mod Settled
 pub mod Exact
+pub mod Standing
 pub mod Kept
 pub mod Finding
 pub mod Promised

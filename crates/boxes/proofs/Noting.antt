@@ -1,11 +1,33 @@
 -- Places at which a mark is noted, counted and written from the lowest up.
-use Rattle.std.proofs.Common.{◌≡◌, ℕ, zero, suc, ◌+◌, ◌-◌, ◌<◌, ◌≤◌, Bool, true, false, List, [], ◌∷◌, ◌++◌, map, length, get_or, take, drop, set, sym, refl, ap, ◌∙◌, inl, inr, zero-add, add-one, arith, length-take-le}
-use Rattle.std.proofs.lemmas.List.{set_at, take_more, take-append-drop, append_assoc}
+use Rattle.std.proofs.Common.{◌≡◌, ℕ, zero, suc, ◌+◌, ◌-◌, ◌<◌, ◌≤◌, Bool, true, false, List, [], ◌∷◌, ◌++◌, map, length, cond, sum_by, count_by, get_or, take, drop, set, sym, refl, ap, ◌∙◌, inl, inr, add-zero, zero-add, add-one, arith, length-take-le}
+use Rattle.std.proofs.lemmas.List.{set_at, take_more, append_assoc}
+use Rattle.std.specs.List.{range_with_len}
+use Rattle.std.proofs.lemmas.List.Sums.{sum_by-append}
 use Rattle.std.proofs.lemmas.Bool.{cases_lt}
 use Rattle.record.specs.declared.index.Entry.{Entry}
 use Rattle.table.specs.Marks.{put, picked}
 use Rattle.boxes.specs.declared.shelf.Spot.{Spot}
 use Rattle.boxes.specs.Listing.{spot_at, Written}
+
+range_more : (a n : ℕ) → range_with_len a (suc n) ≡ range_with_len a n ++ (a + n) ∷ []
+range_more a zero = ap (λ k. k ∷ []) (sym (add-zero a))
+range_more a (suc n) =
+    let e : (a + 1) + n ≡ a + suc n = omega arith in ap (λ ks. a ∷ ks) (range_more (a + 1) n ∙ ap (λ k. range_with_len (a + 1) n ++ k ∷ []) e)
+
+sum_more : (g : ℕ → ℕ) (a n : ℕ) → sum_by g (range_with_len a (suc n)) ≡ sum_by g (range_with_len a n) + g (a + n)
+sum_more g a n =
+    ap (sum_by g) (range_more a n) ∙ (sum_by-append g (range_with_len a n) ((a + n) ∷ []) ∙ ap (λ m. sum_by g (range_with_len a n) + m) (zero-add (g (a + n))))
+
+length_put : {L : Type 0} (b : Bool) (x : L) (xs : List L) → length xs + cond b 1 0 ≡ length (put b x xs)
+length_put true x xs = omega arith
+length_put false x xs = omega arith
+
+-- as many places pass a test as are picked
+pub count_places : (test : ℕ → Bool) (n : ℕ) → count_by test (range_with_len 1 n) ≡ length (picked test 0 n)
+count_places test zero = refl
+count_places test (suc n) =
+    let e : 1 + n ≡ 0 + suc n = omega arith in
+    sum_more (λ x. cond (test x) 1 0) 1 n ∙ ((λ i. count_places test n i + cond (test (e i)) 1 0) ∙ length_put (test (0 + suc n)) (0 + suc n) (picked test 0 n))
 
 module _ (test : ℕ → Bool) where
   -- one more place
@@ -17,20 +39,6 @@ module _ (test : ℕ → Bool) where
 
   next_false : (p : ℕ) → test (p + 1) ≡ false → picked test 0 (p + 1) ≡ picked test 0 p
   next_false p e = picked_next p ∙ ap (λ b. put b (p + 1) (picked test 0 p)) e
-
-  pub count_true : (p n : ℕ) → test (p + 1) ≡ true → n ≡ length (picked test 0 p) → n + 1 ≡ length (picked test 0 (p + 1))
-  count_true p n t e = let l = ap length (next_true p t) in omega arith
-
-  pub count_false : (p n : ℕ) → test (p + 1) ≡ false → n ≡ length (picked test 0 p) → n ≡ length (picked test 0 (p + 1))
-  count_false p n t e = let l = ap length (next_false p t) in omega arith
-
-  pub few : (p : ℕ) → length (picked test 0 p) ≤ p
-  few zero = omega arith
-  few (suc p) = go (test (0 + suc p)) refl (few p)
-    where
-      go : (b : Bool) → test (0 + suc p) ≡ b → length (picked test 0 p) ≤ p → length (picked test 0 (suc p)) ≤ suc p
-      go true e h = let l = ap (λ b. length (put b (0 + suc p) (picked test 0 p))) e in omega arith
-      go false e h = let l = ap (λ b. length (put b (0 + suc p) (picked test 0 p))) e in omega arith
 
   -- more places have no fewer
   pub grows : (p q : ℕ) → p ≤ q → length (picked test 0 p) ≤ length (picked test 0 q)
@@ -45,9 +53,6 @@ module _ (test : ℕ → Bool) where
       go b e ih = elim (cases_lt q p) [ inl l ↦ let x : p ≡ suc q = omega arith in rw x (omega arith) | inr l ↦ let a = ih l in let s = step b e in omega arith ]
 
   module _ (list : List Entry) (count : ℕ) (old : List Spot) where
-    pub written_none : count ≤ length old → Written list test 0 count count old old
-    written_none h = record { left = omega arith; is = sym (take-append-drop count old) }
-
     -- a place at which it is not noted
     pub written_same : (p free : ℕ) (new : List Spot) → test (p + 1) ≡ false → Written list test p count free old new → Written list test (p + 1) count free old new
     written_same p free new t w =

@@ -1,26 +1,22 @@
 -- What the count of readings says of a record's bytes.
-use Rattle.std.proofs.Common.{◌≡◌, ℕ, zero, suc, ◌<◌, ◌≤◌, Bool, List, length, sym, refl, ◌∙◌, subst, inl, inr, arith}
-use Rattle.std.proofs.lemmas.Bool.{cases_lt}
+use Rattle.std.proofs.Common.{◌≡◌, ℕ, zero, suc, ◌<◌, Bool, List, length, sym, refl, ◌∙◌, subst, inl, inr, arith}
 use Rattle.record.specs.declared.index.Entry.{Entry}
 use Rattle.record.specs.Run.{run_at, Spans}
 use Rattle.record.specs.Index.{lowered, shown, IndexedAs}
 use Rattle.record.proofs.Indexing.{index_holds}
 use Rattle.table.specs.declared.fault.Role.TheVariants.{Pattern}
-use Rattle.table.specs.declared.fault.Fault.{Fault as TableFault}
 use Rattle.table.specs.Table.{Tab}
 use Rattle.table.specs.Check.{SoundTable}
-use Rattle.table.specs.Calls.{Admitted, Refused}
+use Rattle.table.specs.Calls.{Admitted}
 use Rattle.table.specs.Reading.{Single, Two, Counts}
 use Rattle.table.specs.Marks.{Listed}
-use Rattle.boxes.specs.declared.fault.Fault.TheVariants.{Table}
 use Rattle.boxes.specs.declared.fault.Cause.TheVariants.{NoReading, TwoReadings}
 use Rattle.boxes.specs.Fault.{fault}
-use Rattle.boxes.specs.Limits.{scratch_needs}
 use Rattle.boxes.specs.Check.{Passes, Fails}
 use Rattle.boxes.specs.Record.{Read, Alike}
 use Rattle.boxes.specs.Calls.{buffers_checks, read_checks}
 use Rattle.boxes.specs.Locate.{ReadOnce}
-use Rattle.boxes.proofs.Filing.{read_of, whole_of, not_refused}
+use Rattle.boxes.proofs.Filing.{read_of, whole_of}
 use Rattle.boxes.proofs.Spotting.{noted_spots}
 
 module _ {C : Type 0} (kinds : C → ℕ → Bool) (P : Tab C) {bytes : List ℕ} {list : List Entry} {top : ℕ} (x : IndexedAs bytes list top)
@@ -41,14 +37,6 @@ module _ {C : Type 0} (kinds : C → ℕ → Bool) (P : Tab C) {bytes : List ℕ
   two_readings s n h c =
       let t = two_of n h c in
       inr (buffers, inr (x.is, inr (s, inr (read_of kinds P x t.one, inl ((read_of kinds P x t.one, read_of kinds P x t.other, t.differ), refl)))))
-
-  -- the pattern is refused by the table layer, and never for the scratch
-  pub refused : (e : TableFault) → Refused Pattern P (lowered list top) scratch e → Fails (read_checks kinds P bytes index scratch) (Table e)
-  refused e (inl f) = inr (buffers, inr (x.is, inl (e, f, refl)))
-  refused e (inr f) = absurd (not_refused kinds P x Pattern scratch e f.0 (enough buffers.1.0) (inr f))
-    where
-      enough : (scratch < scratch_needs → ⊥) → scratch_needs ≤ scratch
-      enough n = elim (cases_lt scratch scratch_needs) [ inl l ↦ absurd (n l) | inr l ↦ l ]
 
   pub once : (sets : List ℕ) → length sets ≡ scratch → Admitted Pattern P (lowered list top) scratch → (n : ℕ) → n ≡ 1 → RunCounts n
       → (n ≡ 1 → Spans (shown list top) 0 (lowered list top) (lowered list top) → Listed kinds P (shown list top) (lowered list top) sets)

@@ -5,12 +5,12 @@ use Rattle.std.specs.List.{flat_map}
 use Rattle.std.proofs.lemmas.List.{drop-take, get_or_default}
 use Rattle.std.proofs.lemmas.Bool.{cases_lt}
 use Rattle.table.specs.Table.{At}
-use Rattle.boxes.specs.Shelf.{written, part}
+use Rattle.table.specs.declared.rule.Rule.{Rule}
+use Rattle.boxes.specs.declared.shelf.PatternEntry.{PatternEntry}
+use Rattle.boxes.specs.declared.shelf.RecordEntry.{RecordEntry}
+use Rattle.boxes.specs.Shelf.{Box, World, written, part}
 
 -- an element that is there
-pub at_one : {A : Type 0} (xs : List A) (i : ℕ) (x y : A) → At xs i x → At xs i y → x ≡ y
-at_one xs i x y h g = sym h.1 ∙ (get_or_default xs i x y h.0 ∙ g.1)
-
 pub at_read : {A : Type 0} (xs : List A) (i : ℕ) (d : A) → i < length xs → At xs i (get_or xs i d)
 at_read xs i d h = (h, get_or_default xs i (get_or xs i d) d h)
 
@@ -115,6 +115,14 @@ module _ {X A E : Type 0} (f : X → List A) (e : ℕ → X → E) where
 -- one element written
 pub set_written : {A : Type 0} (xs : List A) (i : ℕ) (x : A) → i < length xs → set xs i x ≡ written i (x ∷ []) xs
 set_written xs i x h = rw (set_split, add-one)
+
+-- a box on a shelf whose lists are given
+pub lists_are : {C : Type 0} {box : Box} {rules rules' : List (Rule C)} {patterns patterns' : List PatternEntry} {records records' : List RecordEntry} {bytes bytes' : List ℕ}
+    → rules ≡ rules' → patterns ≡ patterns' → records ≡ records' → bytes ≡ bytes'
+    → ◌≡◌ {A = World C}
+    (record { box = box; shelf = record { rules = rules; patterns = patterns; records = records; bytes = bytes } })
+    (record { box = box; shelf = record { rules = rules'; patterns = patterns'; records = records'; bytes = bytes' } })
+lists_are {box = box} p q r s i = record { box = box; shelf = record { rules = p i; patterns = q i; records = r i; bytes = s i } }
 
 -- no refusal for want of room: there is a place
 pub room_left : (A : Type 0) (n r : ℕ) → (A ⊎ (n < r + 1) → ⊥) → r < n

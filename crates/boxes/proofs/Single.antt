@@ -10,9 +10,6 @@ use Rattle.record.proofs.Verdict.{one_verdict}
 use native.Mathlib.Decide.{ℕ_discrete}
 
 module _ {C : Type 0} (kinds : C → ℕ → Bool) where
-  pub one_record : (bytes : List ℕ) (x y : IsRecord bytes) → x.nodes ≡ y.nodes
-  one_record = one_verdict.one_value
-
   -- a reading, moved to the same nodes under another name
   moved : (T : Tab C) (bytes : List ℕ) (is : IsRecord bytes) (x : Read kinds T bytes) → Whole kinds T (erase is.nodes)
   moved T bytes is x =
@@ -22,7 +19,7 @@ module _ {C : Type 0} (kinds : C → ℕ → Bool) where
         starts = x.whole.starts;
         reads =
             subst (λ (n : Nodes). Reads kinds T x.whole.state (erase n) x.whole.reading)
-            (one_record bytes x.is is) x.whole.reads;
+            (one_verdict.one_value bytes x.is is) x.whole.reads;
       }
 
   -- readings that cannot differ are alike
@@ -42,4 +39,4 @@ module _ {C : Type 0} (kinds : C → ℕ → Bool) where
 
   -- the same reading marks the same nodes
   pub same_spots : (P : Tab C) (bytes : List ℕ) (m : ℕ) (x y : Read kinds P bytes) → Alike x y → spots m x ≡ spots m y
-  same_spots P bytes m x y s = let e = one_record bytes x.is y.is in λ i. spotted P.rules m 0 (e i) (s.1 i)
+  same_spots P bytes m x y s = let e = one_verdict.one_value bytes x.is y.is in λ i. spotted P.rules m 0 (e i) (s.1 i)

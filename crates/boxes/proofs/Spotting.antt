@@ -1,5 +1,7 @@
 -- The nodes that a reading marks, by the places of an index and by the record's value.
 use Rattle.std.proofs.Common.{◌≡◌, ℕ, zero, suc, ◌+◌, ◌-◌, ◌<◌, ◌≤◌, Bool, true, false, List, [], ◌∷◌, ◌++◌, map, length, get_or, take as taken, Some, None, Option, sym, refl, ap, ◌∙◌, ap₂, zero-add, arith, get_or-take}
+use Rattle.std.proofs.lemmas.List.{map-append}
+use Rattle.std.proofs.lemmas.Option.{get_or_from_slice_get}
 use Rattle.record.proofs.Verdict.{one_verdict}
 use Rattle.boxes.proofs.Filing.{whole_of}
 use Rattle.std.specs.List.{slice_get}
@@ -17,22 +19,13 @@ use Rattle.table.specs.Marks.{carries, put, marked, picked, noted, Listed}
 use Rattle.boxes.specs.Record.{Read, spotted, spots}
 use Rattle.boxes.specs.Listing.{blank, spot_of, spot_at}
 
--- the entry at a place
-nth_get_or_is : {X : Type 0} (xs : List X) (j : ℕ) (x d : X) → slice_get xs j ≡ Some x → get_or xs j d ≡ x
-nth_get_or_is [] j x d h = let z : ◌≡◌ {A = ℕ} 0 1 = cc in absurd (omega arith)
-nth_get_or_is (y ∷ xs) zero x d h = cc
-nth_get_or_is (y ∷ xs) (suc j) x d h = nth_get_or_is xs j x d h
-
+-- the node at a place
 spot_there : (list : List Entry) (j p : ℕ) (e : Entry) → p ≡ suc j → slice_get list j ≡ Some e → spot_at list p ≡ spot_of e
-spot_there list j p e q h = let d : p - 1 ≡ j = omega arith in ap (λ i. spot_of (get_or list i blank)) d ∙ ap spot_of (nth_get_or_is list j e blank h)
+spot_there list j p e q h = let d : p - 1 ≡ j = omega arith in ap (λ i. spot_of (get_or list i blank)) d ∙ ap spot_of (get_or_from_slice_get list j e blank h)
 
 map_put : {X Y : Type 0} (f : X → Y) (b : Bool) (x : X) (xs : List X) → map f (put b x xs) ≡ put b (f x) (map f xs)
 map_put f true x xs = refl
 map_put f false x xs = refl
-
-map_append : {X Y : Type 0} (f : X → Y) (xs ys : List X) → map f (xs ++ ys) ≡ map f xs ++ map f ys
-map_append f [] ys = refl
-map_append f (x ∷ xs) ys = ap (λ zs. f x ∷ zs) (map_append f xs ys)
 
 module _ {C : Type 0} (rules : List (Rule C)) (m : ℕ) (list : List Entry) (all_seen : (k : ℕ) (e : Entry) → slice_get list k ≡ Some e → seen list (suc k) ≡ Some e.node) where
   -- one step of the listing
@@ -56,7 +49,7 @@ module _ {C : Type 0} (rules : List (Rule C)) (m : ℕ) (list : List Entry) (all
       let y = spots_are a base (o + span t i) σ s.0 in
       ap (map (spot_at list)) (turned p r ρ σ (Some e.node) seen_is)
       ∙ (map_put (spot_at list) (carries rules r m) p _
-      ∙ (λ j. put (carries rules r m) (spot_there list (base + count a + count i) p e q s.2 j) ((map_append (spot_at list) (marked rules m (seen list) (place (base + count a) i) ρ) (marked rules m (seen list) (place base a) σ) ∙ ap₂ ◌++◌ x y) j)))
+      ∙ (λ j. put (carries rules r m) (spot_there list (base + count a + count i) p e q s.2 j) ((map-append (spot_at list) (marked rules m (seen list) (place (base + count a) i) ρ) (marked rules m (seen list) (place base a) σ) ∙ ap₂ ◌++◌ x y) j)))
 
 -- a function of the places picked matters only there
 map_picked : {Y : Type 0} (f g : ℕ → Y) (test : ℕ → Bool) (s : ℕ) → ((p : ℕ) → 0 < p → p ≤ s → f p ≡ g p) → map f (picked test 0 s) ≡ map g (picked test 0 s)

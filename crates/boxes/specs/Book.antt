@@ -37,9 +37,9 @@ pub record Book (C : Type 0) : Type 0 where
 module _ {C : Type 0} where
   -- what a call writes that is not refused
   abbrev pub write : Call C → Book C → Book C
-  write (lay F) b = record { form = some F; patterns = b.patterns; records = b.records }
-  write (admit P sheet helper) b = record { form = b.form; patterns = b.patterns ++ P ∷ []; records = b.records }
-  write (file bytes index scratch) b = record { form = b.form; patterns = b.patterns; records = b.records ++ bytes ∷ [] }
+  write (lay F) b = record b { form = some F }
+  write (admit P sheet helper) b = record b { patterns = b.patterns ++ P ∷ [] }
+  write (file bytes index scratch) b = record b { records = b.records ++ bytes ∷ [] }
   write (find p r m index scratch out) b = b
   write seal b = b
 

@@ -73,7 +73,7 @@ module _ {C : Type 0} (F : Tab C) (shelf : Shelf C) where
       record { rules = length F.rules; patterns = 0; records = 0; bytes = 0; form_rules = length F.rules; starts = F.starts; finals = F.finals }
 
   abbrev pub shelf_laid : Shelf C
-  shelf_laid = record { rules = written 0 F.rules shelf.rules; patterns = shelf.patterns; records = shelf.records; bytes = shelf.bytes }
+  shelf_laid = record shelf { rules = written 0 F.rules shelf.rules }
 
   abbrev pub Lays : Result Box Fault → Shelf C → Type 0
   Lays = Answers lay_checks shelf (λ box after. (box ≡ box_laid) × (after ≡ shelf_laid))
@@ -104,20 +104,10 @@ module _ {C : Type 0} (w : World C) (P : Tab C) (sheet helper : ℕ) where
   abbrev pub admitted : World C
   admitted =
       record {
-        box = record {
-          rules = w.box.rules + length P.rules;
-          patterns = w.box.patterns + 1;
-          records = w.box.records;
-          bytes = w.box.bytes;
-          form_rules = w.box.form_rules;
-          starts = w.box.starts;
-          finals = w.box.finals;
-        };
-        shelf = record {
+        box = record w.box { rules = w.box.rules + length P.rules; patterns = w.box.patterns + 1 };
+        shelf = record w.shelf {
           rules = written w.box.rules P.rules w.shelf.rules;
           patterns = written w.box.patterns (record { first = w.box.rules; count = length P.rules; starts = P.starts; finals = P.finals } ∷ []) w.shelf.patterns;
-          records = w.shelf.records;
-          bytes = w.shelf.bytes;
         };
       }
 
@@ -155,18 +145,8 @@ module _ {C : Type 0} (kinds : C → ℕ → Bool) (w : World C) (bytes : List �
   abbrev pub filed : World C
   filed =
       record {
-        box = record {
-          rules = w.box.rules;
-          patterns = w.box.patterns;
-          records = w.box.records + 1;
-          bytes = w.box.bytes + length bytes;
-          form_rules = w.box.form_rules;
-          starts = w.box.starts;
-          finals = w.box.finals;
-        };
-        shelf = record {
-          rules = w.shelf.rules;
-          patterns = w.shelf.patterns;
+        box = record w.box { records = w.box.records + 1; bytes = w.box.bytes + length bytes };
+        shelf = record w.shelf {
           records = written w.box.records (record { first = w.box.bytes; count = length bytes } ∷ []) w.shelf.records;
           bytes = written w.box.bytes bytes w.shelf.bytes;
         };

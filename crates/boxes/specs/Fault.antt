@@ -9,6 +9,8 @@ use Rattle.boxes.specs.declared.fault.Layer.{Layer}
 use Rattle.boxes.specs.declared.fault.Layer.TheVariants as layer
 use Rattle.boxes.specs.declared.fault.Fault.{Fault}
 use Rattle.boxes.specs.declared.fault.Fault.TheVariants.{Class, Record, Table, Boxes}
+use Rattle.boxes.specs.declared.shelf.ShelfList.{ShelfList}
+use Rattle.boxes.specs.declared.shelf.ShelfList.TheVariants.{Rules, Patterns, Records, Bytes}
 
 -- the numbers of the box layer
 abbrev pub own_number : Cause → ℕ
@@ -41,3 +43,10 @@ layer_of (Boxes f) = layer.Boxes
 -- a refusal of the box layer
 abbrev pub fault : Cause → ℕ → Fault
 fault c p = Boxes (record { cause = c; place = p })
+
+-- the number of a list of the shelf
+abbrev pub place_of : ShelfList → ℕ
+place_of Rules = 0
+place_of Patterns = 1
+place_of Records = 2
+place_of Bytes = 3

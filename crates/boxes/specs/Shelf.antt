@@ -1,5 +1,5 @@
 -- The box's numbers and the shelf's lists, as values.
-use Rattle.std.specs.Prelude.{ℕ, ◌+◌, List, ◌++◌, length, take, drop, slice_index_or}
+use Rattle.std.specs.Prelude.{◌≡◌, ℕ, ◌+◌, ◌≤◌, List, ◌++◌, length, take, drop, slice_index_or}
 use Rattle.table.specs.declared.rule.Rule.{Rule}
 use Rattle.table.specs.Table.{Tab}
 use Rattle.boxes.specs.declared.shelf.PatternEntry.{PatternEntry}
@@ -17,6 +17,13 @@ pub record Shelf (C : Type 0) : Type 0 where
 abbrev pub shelf_of : {C : Type 0} → Lent C → Shelf C
 shelf_of s = record { rules = s.rules.now; patterns = s.patterns.now; records = s.records.now; bytes = s.bytes.now }
 
+-- the lists that are lent are the same before and after
+pub record SameLists {C : Type 0} (old new : Lent C) : Type 0 where
+  pub rules : new.rules.ghost_name ≡ old.rules.ghost_name
+  pub patterns : new.patterns.ghost_name ≡ old.patterns.ghost_name
+  pub records : new.records.ghost_name ≡ old.records.ghost_name
+  pub bytes : new.bytes.ghost_name ≡ old.bytes.ghost_name
+
 -- used counts, and of the form its rule count, start and final states
 pub record Box : Type 0 where
   pub rules : ℕ
@@ -32,10 +39,21 @@ abbrev pub box_of : Held → Box
 box_of h =
     record { rules = h.rules; patterns = h.patterns; records = h.records; bytes = h.bytes; form_rules = h.form_rules; starts = h.starts; finals = h.finals }
 
+-- no list of the shelf is shorter than its used count
+pub record Reaches {C : Type 0} (box : Box) (shelf : Shelf C) : Type 0 where
+  pub rules : box.rules ≤ length shelf.rules
+  pub patterns : box.patterns ≤ length shelf.patterns
+  pub records : box.records ≤ length shelf.records
+  pub bytes : box.bytes ≤ length shelf.bytes
+
 -- a box with its shelf
 pub record World (C : Type 0) : Type 0 where
   pub box : Box
   pub shelf : Shelf C
+
+-- what a box holds, with the shelf that is lent
+abbrev pub world_of : {C : Type 0} → Held → Lent C → World C
+world_of h s = record { box = box_of h; shelf = shelf_of s }
 
 -- the list with new elements written from a place on
 abbrev pub written : {A : Type 0} → ℕ → List A → List A → List A

@@ -2,10 +2,15 @@
 use Rattle.std.specs.Prelude.{Ok, Err, Result}
 use Rattle.boxes.specs.declared.fault.Fault.{Fault}
 use Rattle.boxes.specs.declared.refused.Refused.{Refused}
+use Rattle.boxes.specs.declared.stage.on_shelf.BoxOnShelf.{BoxOnShelf}
 use Rattle.boxes.specs.declared.stage.NewBox.{NewBox}
 use Rattle.boxes.specs.declared.stage.LaidBox.{LaidBox}
 use Rattle.boxes.specs.Check.{Check}
-use Rattle.boxes.specs.Shelf.{Box, box_of}
+use Rattle.boxes.specs.Shelf.{Box, World, box_of}
+
+-- a box on its shelf, as the relations speak of it
+abbrev pub world : {C : Type 0} → BoxOnShelf C → World C
+world b = record { box = box_of b.held; shelf = record { rules = b.rules.now; patterns = b.patterns.now; records = b.records.now; bytes = b.bytes.now } }
 
 -- what a function that makes a check answers
 abbrev pub Checked : Check → Result (Unit {0}) Fault → Type 0

@@ -1,8 +1,8 @@
 ghost use Rattle.std.specs.Prelude.{◌≡◌};
 ghost use Rattle.boxes.specs.declared.fault.Fault.TheVariants.{Class, Record, Table};
-ghost use Rattle.boxes.specs.Fault.{own_number, number, place, layer_of};
+ghost use Rattle.boxes.specs.Fault.{own_number, number, place, layer_of, fault};
 
-use record::fault::Fault as RecordFault;
+use record::fault::{Fault as RecordFault, Numbered, Refusal};
 use table::class_fault::ClassFault;
 use table::fault::{Fault as TableFault, Role};
 
@@ -18,11 +18,10 @@ pub enum Cause {
     TwoReadings,
 }
 
-impl Cause {
-    // The number of the refusal.
-    pub fn number(self) -> u8
-        ensures { result ≡ own_number self }
-    {
+impl Numbered for Cause {
+    ghost numbered = { own_number };
+
+    fn number(&self) -> u8 {
         match self {
             Cause::ShortShelf => 9,
             Cause::NoRoom => 10,
@@ -35,12 +34,8 @@ impl Cause {
     }
 }
 
-// A refusal of the box layer: why, and where.
-#[derive(Clone, Copy, PartialEq, Eq, Debug)]
-pub struct BoxFault {
-    pub cause: Cause,
-    pub place: usize,
-}
+// A refusal of the box layer.
+pub type BoxFault = Refusal<Cause>;
 
 // The layer that refuses.
 #[derive(Clone, Copy, PartialEq, Eq, Debug)]
@@ -61,6 +56,13 @@ pub enum Fault {
 }
 
 impl Fault {
+    // A refusal of the box layer.
+    pub(crate) fn boxes(cause: Cause, place: usize) -> Fault
+        ensures { result ≡ fault cause place }
+    {
+        Fault::Boxes(BoxFault { cause, place })
+    }
+
     pub fn number(&self) -> u8
         ensures { result ≡ number self.now }
     {
@@ -68,7 +70,7 @@ impl Fault {
             Fault::Class(fault) => fault.number(),
             Fault::Record(fault) => fault.number(),
             Fault::Table(fault) => fault.number(),
-            Fault::Boxes(fault) => fault.cause.number(),
+            Fault::Boxes(fault) => fault.number(),
         }
     }
 

@@ -1,3 +1,6 @@
+use record::limits::MAX_NODES;
+use table::limits::PER_PLACE;
+
 // The most patterns and records of a box, and the highest mark.
 pub const MAX_PATTERNS: usize = 16;
 
@@ -5,5 +8,5 @@ pub const MAX_RECORDS: usize = 64;
 
 pub const MAX_MARK: u8 = 15;
 
-// How many numbers of scratch a box's calls need.
-pub const SCRATCH_NEEDS: usize = 3075;
+// How many numbers of scratch a box's calls need: those of each place of the largest record, the empty run's too.
+pub const SCRATCH_NEEDS: usize = PER_PLACE * (MAX_NODES + 1);

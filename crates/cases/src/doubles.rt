@@ -1,3 +1,4 @@
+use crate::rules::{slips, takes};
 use examine::examine::examine;
 use examine::line::Line;
 use examine::sheet::Sheet;
@@ -7,38 +8,16 @@ use table::fault::{Cause, Fault};
 use table::fits::fits;
 use table::mask::Mask;
 use table::readings::readings;
-use table::rule::{Rule, Step};
 use table::table::Table;
 
-const TWO: Mask = Mask { bits: 4 };
+// The kind 2, and the kinds 1 to 3.
+const TWO: u64 = 4;
 
-const FEW: Mask = Mask { bits: 14 };
-
-// A node rule.
-fn takes(from: u8, class: Mask, inside: u8, to: u8, marks: u16) -> Rule<Mask> {
-    Rule {
-        from,
-        to,
-        step: Step::Node {
-            class,
-            inside,
-            marks,
-        },
-    }
-}
-
-// An empty rule.
-fn skips(from: u8, to: u8) -> Rule<Mask> {
-    Rule {
-        from,
-        to,
-        step: Step::Empty,
-    }
-}
+const FEW: u64 = 14;
 
 // Examines, and says of a double whether it fits and has two readings as the sheet shows it.
 fn doubled(form: Table<Mask>, pattern: Table<Mask>) -> Result<bool, Fault> {
-    let mut sheet = [Line::BLANK; 55];
+    let mut sheet = [Line::default(); 55];
     let mut helper = [7; 55];
     let Err(fault) = examine(form, pattern, &mut sheet, &mut helper) else {
         return Ok(false);
@@ -80,7 +59,7 @@ fn doubles_are_shown(rt: HostRuntime) -> Result<(), Fail> {
         finals: 6,
         rules: &p,
     };
-    let e = [skips(0, 0)];
+    let e = [slips(0, 0)];
     let e = Table {
         starts: 1,
         finals: 1,
@@ -116,7 +95,7 @@ fn examined(lines: usize, numbers: usize) -> Option<(Cause, usize)> {
         finals: 6,
         rules: &p,
     };
-    let mut sheet = [Line::BLANK; 60];
+    let mut sheet = [Line::default(); 60];
     let mut helper = [7; 60];
     if lines > 60 || numbers > 60 {
         return None;
@@ -179,7 +158,7 @@ fn a_double_of_65_levels_is_found(rt: HostRuntime) -> Result<(), Fail> {
         takes(2, TWO, 3, 5, 0),
         takes(3, TWO, 4, 5, 0),
         takes(4, TWO, 0, 5, 0),
-        skips(0, 5),
+        slips(0, 5),
     ];
     let form = Table {
         starts: 1 << 14,
@@ -191,7 +170,7 @@ fn a_double_of_65_levels_is_found(rt: HostRuntime) -> Result<(), Fail> {
         finals: 1 | 1 << 5,
         rules: &p,
     };
-    let mut sheet = [Line::BLANK; 1621];
+    let mut sheet = [Line::default(); 1621];
     let mut helper = [0; 1621];
     match examine(form, pattern, &mut sheet, &mut helper) {
         Ok(()) => Err(Fail::new("single")),

@@ -6,4 +6,6 @@ mod doubles;
 #[cfg(test)]
 mod records;
 #[cfg(test)]
+mod rules;
+#[cfg(test)]
 mod tables;

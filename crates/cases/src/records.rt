@@ -2,20 +2,10 @@ use record::fault::{Cause, Fault, Flaw};
 use record::index::{Entry, index};
 use record::indexed::Indexed;
 use record::limits::MAX_NODES;
-use record::run::{Node, Runs};
+use record::run::Runs;
 use record::text::text;
 use std::alloc::{AllocError, Global};
 use std::test::Fail;
-
-const BLANK: Entry = Entry {
-    node: Node {
-        kind: 0,
-        inside: 0,
-        after: 0,
-    },
-    offset: 0,
-    size: 0,
-};
 
 // One node of kind 2 with the text "12".
 const D: [u8; 10] = [6, 0, 0, 0, 2, 0, 2, 0, 0x31, 0x32];
@@ -30,14 +20,9 @@ fn push_head(bytes: &mut Vec<u8>, length: usize, kind: u16, text: usize) -> Resu
 // Nodes in one another, with further bytes inside the innermost.
 fn nested(heap: Global, levels: usize, innermost: &[u8]) -> Result<Vec<u8>, AllocError> {
     let mut bytes = Vec::new(heap);
-    for level in 0..levels {
-        let below = (levels - level - 1).wrapping_mul(8);
-        push_head(
-            &mut bytes,
-            below.wrapping_add(innermost.len()).wrapping_add(4),
-            1,
-            0,
-        )?;
+    for below in (0..levels).rev() {
+        let inside = below.wrapping_mul(8).wrapping_add(innermost.len());
+        push_head(&mut bytes, inside.wrapping_add(4), 1, 0)?;
     }
     bytes.extend_from_slice(innermost)?;
     Ok(bytes)
@@ -63,7 +48,7 @@ fn long(heap: Global, size: usize) -> Result<Vec<u8>, AllocError> {
 }
 
 fn count(bytes: &[u8]) -> Result<usize, Fault> {
-    let mut list = [BLANK; MAX_NODES];
+    let mut list = [Entry::default(); MAX_NODES];
     index(bytes, &mut list)
 }
 
@@ -121,7 +106,7 @@ fn flaws_come_in_order(rt: HostRuntime) -> Result<(), Fail> {
 
 #[test]
 fn ten_bytes_are_one_node(rt: HostRuntime) {
-    let mut list = [BLANK; MAX_NODES];
+    let mut list = [Entry::default(); MAX_NODES];
     assert_eq!(rt; index(&D, &mut list), Ok(1));
     assert!(rt; list[0].node.kind == 2 && list[0].offset == 0 && list[0].size == 10);
     let run = Indexed {
@@ -141,5 +126,5 @@ fn ten_bytes_are_one_node(rt: HostRuntime) {
         cause: Cause::ShortList,
         place: MAX_NODES,
     };
-    assert_eq!(rt; index(&D, &mut [BLANK; 1023]), Err(short));
+    assert_eq!(rt; index(&D, &mut [Entry::default(); 1023]), Err(short));
 }

@@ -1,3 +1,4 @@
+use crate::rules::{slips, takes};
 use record::index::Entry;
 use record::indexed::Indexed;
 use record::run::Node;
@@ -9,29 +10,7 @@ use table::marks::marks;
 use table::mask::Mask;
 use table::range::Range;
 use table::readings::readings;
-use table::rule::{Rule, Step};
 use table::table::Table;
-
-// A rule from a state to another for a node of the kinds of a mask, with an inside state and marks.
-fn takes(from: u8, bits: u64, inside: u8, to: u8, marks: u16) -> Rule<Mask> {
-    Rule {
-        from,
-        to,
-        step: Step::Node {
-            class: Mask { bits },
-            inside,
-            marks,
-        },
-    }
-}
-
-fn slips(from: u8, to: u8) -> Rule<Mask> {
-    Rule {
-        from,
-        to,
-        step: Step::Empty,
-    }
-}
 
 // A node of kind 2 without inside, with this after place.
 fn leaf(after: usize) -> Entry {

@@ -1,16 +1,17 @@
 -- One more line.
-use Rattle.std.proofs.Common.{◌≡◌, ℕ, ◌+◌, ◌<◌, ◌≤◌, Bool, true, false, not, ◌&&◌, ◌||◌, eqb, ◌⊎◌, List, length, get_or, set, sym, refl, ap, ◌∙◌, subst, inl, inr, arith}
+use Rattle.std.proofs.Common.{◌≡◌, ℕ, ◌+◌, ◌<◌, ◌≤◌, Bool, true, false, not, ◌&&◌, ◌||◌, eqb, ◌⊎◌, List, length, get_or, set, is_err, Ok, Err, Result, sym, refl, ap, ◌∙◌, subst, inl, inr, arith}
 use Rattle.std.proofs.lemmas.List.{get_or-set_same, get_or-set_other, length-set}
-use Rattle.std.proofs.lemmas.Bool.{cases_eq}
+use Rattle.std.proofs.lemmas.Bool.{cases_eq, true≢false}
 use Rattle.table.specs.Sets.{bit}
 use Rattle.table.specs.Reading.{Reading}
 use Rattle.examine.specs.declared.fact.Sort.{Sort}
 use Rattle.examine.specs.declared.fact.Sort.TheVariants.{Together, Poised, Apart}
 use Rattle.examine.specs.declared.fact.Fact.{Fact}
 use Rattle.examine.specs.declared.line.Line.{Line}
+use Rattle.examine.specs.declared.product.DoubleAt.{DoubleAt}
 use Rattle.examine.specs.Facts.{together, poised, Says}
 use Rattle.examine.specs.Lines.{blank, line_at, Follows, Good}
-use Rattle.examine.specs.Search.{Setting, State, slot, most, rest, is_apart, noted, count, told, Shows, Low, line_of, doubles, Known, Fine, Grown, On, Found, Due}
+use Rattle.examine.specs.Search.{Setting, State, slot, most, rest, is_apart, noted, count, told, Shows, Low, line_of, doubles, Known, Fine, Grown, On, SameLists, Found, Went, Due, Ready}
 use Rattle.examine.proofs.Slots.{slot_low, slot_same, most_few, noted_length, noted_keeps, noted_at, noted_or, count_most, count_room, count_noted, count_new}
 use Rattle.examine.proofs.Spelling.{spells_lasts, follows_lasts}
 
@@ -29,9 +30,9 @@ rest_apart Poised = refl
 rest_apart Apart = refl
 
 never_rest : (x : Sort) → Poised ≡ rest x → ⊥
-never_rest Together e = let z : ◌≡◌ {A = ℕ} 0 1 = cc in omega arith
-never_rest Poised e = let z : ◌≡◌ {A = ℕ} 0 1 = cc in omega arith
-never_rest Apart e = let z : ◌≡◌ {A = ℕ} 0 1 = cc in omega arith
+never_rest Together e = cc
+never_rest Poised e = cc
+never_rest Apart e = cc
 
 -- a line keeps showing what it shows
 pub shows_lasts : {C : Type 0} (G : Setting C) (lines lines' : ℕ → Line) (n : ℕ) → ((j : ℕ) → 0 < j → j < n → Good G.kinds G.form G.pattern lines j)
@@ -72,7 +73,7 @@ module _ {C : Type 0} (G : Setting C) (s : State) (x : Sort) (l : Line) (fine : 
 
   -- the state after the line
   abbrev pub next : State
-  next = record { lines = lines'; slots = xs₂; used = n + 1 }
+  next = record { lines = lines'; slots = xs₂; used = n + 1; sheet = s.sheet; helper = s.helper }
 
   y_low : at y < all
   y_low = slot_low G y due.low
@@ -214,10 +215,10 @@ module _ {C : Type 0} (G : Setting C) (s : State) (x : Sort) (l : Line) (fine : 
   rest_doubles =
       ap (λ (b : Bool). bit G.form.starts l.form && ((bit G.pattern.starts l.first && bit G.pattern.starts l.second) && (b || not (eqb l.first l.second)))) (rest_apart x)
 
-  pub claimed_found : doubles G y ≡ true → Found G next n
+  claimed_found : doubles G y ≡ true → Found G next n
   claimed_found d = record { above = fine.begun; few = fits; room = (let e = length-set s.lines n l in let r = fine.room in omega arith); good = all_good; fact = y; shows = y_shown; double = d }
 
-  pub claimed_on : doubles G y ≡ false → On G s next × Known G next y
+  claimed_on : doubles G y ≡ false → On G s next × Known G next y
   claimed_on d = (
     record {
       fine = record {
@@ -244,16 +245,24 @@ module _ {C : Type 0} (G : Setting C) (s : State) (x : Sort) (l : Line) (fine : 
           | inr d ↦ elim (origin j (omega arith)) [ inl v ↦ kept j v | inr e ↦ let q = e.1 in absurd (omega arith) ]
         ];
       };
+      same = (refl, refl);
     },
     now_known,
   )
 
+  -- the state after the line, with the numbers as a helper has them
+  abbrev after : List ℕ → State
+  after slots = record { lines = lines'; slots = slots; used = n + 1; sheet = s.sheet; helper = s.helper }
+
+  pub went_found : (slots : List ℕ) → slots ≡ xs₂ → doubles G y ≡ true → SameLists s (after slots) × Found G (after slots) n
+  went_found slots e d = subst (λ ys. SameLists s (after ys) × Found G (after ys) n) (sym e) ((refl, refl), claimed_found d)
+
+  pub went_on : (slots : List ℕ) → slots ≡ xs₂ → doubles G y ≡ false → On G s (after slots) × Known G (after slots) y
+  went_on slots e d = subst (λ ys. On G s (after ys) × Known G (after ys) y) (sym e) (claimed_on d)
+
 module _ {C : Type 0} {G : Setting C} where
   pub known_on : {s t : State} → Grown s t → (x : Fact) → Known G s x → Known G t x
   known_on {s} {t} g x k = record { low = k.low; lined = let e = g.kept (slot G.forms G.states x) k.lined in let h = k.lined in omega arith }
-
-  pub on_none : {s : State} → Fine G s → On G s s
-  on_none fine = record { fine = fine; grown = record { more = omega arith; same = λ j h. refl; kept = λ i h. refl; old = λ i h. refl } }
 
   pub on_more : {s t u : State} → On G s t → On G t u → On G s u
   on_more a b =
@@ -267,6 +276,7 @@ module _ {C : Type 0} {G : Setting C} where
           kept = λ i z. let e = g.kept i z in h.kept i (omega arith) ∙ e;
           old = λ i z. let m = g.more in let e = h.old i (omega arith) in e ∙ g.old i (omega arith);
         };
+        same = (b.same.0 ∙ a.same.0, b.same.1 ∙ a.same.1);
       }
 
   pub used_few : {s : State} → Fine G s → s.used ≤ 393217
@@ -277,10 +287,27 @@ module _ {C : Type 0} {G : Setting C} where
       omega arith
 
   -- the number of a used line is small, and the line is there
-  pub used_low : {s : State} (b : ℕ) → Fine G s → b < s.used → (b < 393217) × (b < length s.lines)
-  used_low {s} b fine u =
+  pub ready_low : {s : State} {b : ℕ} → Ready G s b → (b < 393217) × (b < length s.lines)
+  ready_low {s} {b} ready =
       let h = count_most s.slots (most G.forms G.states) in
-      let k = fine.counted in
-      let m = most_few G.forms G.states fine.bounded.forms_few fine.bounded.states_few in
-      let r = fine.room in
+      let k = ready.fine.counted in
+      let f = used_few ready.fine in
+      let r = ready.fine.room in
+      let u = ready.used.1 in
       (omega arith, omega arith)
+
+  -- on from where a call began
+  pub went_then : {s t u : State} (D E : Setting C → State → State → Type 0) (r : Result (Unit {0}) DoubleAt) → On G s t → (Grown t u → D G t u → E G s u)
+      → Went G t u D r → Went G s u E r
+  went_then D E (Ok v) a f w = (on_more a w.0, f w.0.grown w.1)
+  went_then D E (Err d) a f w = ((w.0.0 ∙ a.same.0, w.0.1 ∙ a.same.1), w.1)
+
+  -- a search that has found no double goes on
+  pub went_ok : {s t : State} (D : Setting C → State → State → Type 0) (r : Result (Unit {0}) DoubleAt) → is_err r ≡ false → Went G s t D r → (r ≡ Ok tt) × (On G s t) × D G s t
+  went_ok D (Ok v) e w = (refl, w.0, w.1)
+  went_ok D (Err d) e w = absurd (true≢false e)
+
+  -- one that has is over
+  pub went_over : {s t : State} (u : State) (D E : Setting C → State → State → Type 0) (r : Result (Unit {0}) DoubleAt) → is_err r ≡ true → On G s t → Went G t u D r → Went G s u E r
+  went_over u D E (Ok v) e a w = absurd (true≢false (sym e))
+  went_over u D E (Err d) e a w = ((w.0.0 ∙ a.same.0, w.0.1 ∙ a.same.1), w.1)

@@ -9,7 +9,7 @@ use Rattle.examine.specs.declared.fact.Fact.{Fact}
 use Rattle.examine.specs.Facts.{together as together_fact, poised as poised_fact, apart as apart_fact, Plain, Steady, Closed}
 use Rattle.examine.specs.Facts.Leads.{slips, slides, against, forks, both}
 use Rattle.examine.specs.Facts.Makes.{plain as plain_node, parted, within, beyond}
-use Rattle.examine.proofs.Rules.{skips_one, takes_inside, takes_after}
+use Rattle.table.proofs.Rules.{skips_one, takes_inside, takes_after}
 
 module _ {C : Type 0} (kinds : C → ℕ → Bool) (F P : Tab C) (K : Fact → Type 0) (plain : Plain F) (closed : Closed kinds F P K) where
   abbrev Together : ℕ → ℕ → ℕ → Type 0

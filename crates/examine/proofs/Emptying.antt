@@ -1,11 +1,9 @@
 -- Empty rules to what a line shows.
-use Rattle.std.proofs.Common.{◌≡◌, ℕ, ◌<◌, Bool, true, false, not, ◌&&◌, eqb, length, is_err, Ok, Err, Result, sym, refl, ap, ◌∙◌, subst, subst₂, inl, inr, arith}
-use Rattle.std.proofs.lemmas.Bool.{and_parts, and_from, eqb-true, eq-eqb, ne_eqb, true≢false}
+use Rattle.std.proofs.Common.{◌≡◌, ◌≢◌, ℕ, ◌<◌, length, sym, refl, ap, ◌∙◌, subst, inl, inr, arith}
 use Rattle.table.specs.declared.rule.Rule.{Rule}
-use Rattle.table.specs.declared.rule.Step.{Step}
-use Rattle.table.specs.declared.rule.Step.TheVariants.{Empty, Node}
+use Rattle.table.specs.declared.rule.Step.TheVariants.{Empty}
 use Rattle.table.specs.Table.{At}
-use Rattle.table.specs.Reading.{Reading, skip, Skips}
+use Rattle.table.specs.Reading.{skip, Skips}
 use Rattle.examine.specs.declared.fact.Sort.TheVariants.{Together}
 use Rattle.examine.specs.declared.fact.Fact.{Fact}
 use Rattle.examine.specs.declared.line.Line.{Line}
@@ -14,39 +12,17 @@ use Rattle.examine.specs.Facts.{together, poised, apart, Steady, Leads}
 use Rattle.examine.specs.Facts.Leads.{slips, slides, against, forks, both}
 use Rattle.examine.specs.Lines.{line_at}
 use Rattle.examine.specs.Lines.Spells.{first as spells_first, second as spells_second, both as spells_both}
-use Rattle.examine.specs.Search.{Setting, State, slot, told, Shows, Low, line_of, Known, Fine, Grown, On, Went, Due, Used, LedBy, Forked, is_empty}
-use Rattle.examine.proofs.Rules.{at_one}
+use Rattle.examine.specs.Search.{Setting, State, slot, told, Shows, Low, line_of, Known, Fine, Grown, Due, Used, Ready, LedBy, Forked}
+use Rattle.table.proofs.Rules.{at_one}
 use Rattle.examine.proofs.Spelling.{spells_lasts}
-use Rattle.examine.proofs.Claims.{known_on, on_more}
-
-skip_rule : {r s : ℕ} {ρ σ : Reading} → skip r ρ ≡ skip s σ → r ≡ s
-skip_rule e = cc
-
-skip_rest : {r s : ℕ} {ρ σ : Reading} → skip r ρ ≡ skip s σ → ρ ≡ σ
-skip_rest e = cc
-
-pub used_on : {s t : State} {b : ℕ} → Grown s t → Used s b → Used t b
-used_on g u = let m = g.more in (u.0, omega arith)
-
-pub line_same : {s t : State} (b : ℕ) {l : Line} → Grown s t → Used s b → line_at s.lines b ≡ l → line_at t.lines b ≡ l
-line_same b g u e = g.same b u.1 ∙ e
+use Rattle.examine.proofs.Claims.{known_on}
 
 module _ {C : Type 0} (G : Setting C) where
-  -- on from where a call began
-  pub went_then : {s t u : State} (D E : Type 0) (r : Result (Unit {0}) ℕ) → On G s t → (Grown t u → D → E) → Went G t u D r → Went G s u E r
-  went_then D E (Ok v) a f w = (on_more a w.0, f w.0.grown w.1)
-  went_then D E (Err top) a f w = w
-
-  -- a search that has found no double goes on
-  pub went_ok : {s t : State} (D : Type 0) (r : Result (Unit {0}) ℕ) → is_err r ≡ false → Went G s t D r → (r ≡ Ok tt) × (On G s t) × D
-  went_ok D (Ok v) e w = (refl, w.0, w.1)
-  went_ok D (Err top) e w = absurd (true≢false e)
-
   pub line_on : {s t : State} (b : ℕ) → Grown s t → 0 < b → (x : Fact) → line_of G s x ≡ b → line_of G t x ≡ b
   line_on b g z x e = g.kept (slot G.forms G.states x) (omega arith) ∙ e
 
-  pub line_low : {s : State} (b : ℕ) {l : Line} → Fine G s → Used s b → line_at s.lines b ≡ l → Low G (told Together l)
-  line_low {s} b f u e = subst (λ (m : Line). Low G (told Together m)) e (f.low b u.0 u.1)
+  pub line_low : {s : State} {b : ℕ} → Ready G s b → Low G (told Together (line_at s.lines b))
+  line_low {s} {b} ready = ready.fine.low b ready.used.0 ready.used.1
 
   pub rule_low : {s : State} → Fine G s → (r : ℕ) {from to : ℕ} → Skips G.pattern r from to → (from < G.states) × (to < G.states)
   rule_low f r h = (
@@ -57,6 +33,11 @@ module _ {C : Type 0} (G : Setting C) where
   -- what line b shows
   pub shown_by : {s : State} {b : ℕ} → Fine G s → (x : Fact) → Known G s x → line_of G s x ≡ b → Shows (line_at s.lines) x b
   shown_by {s} f x k e = subst (Shows (line_at s.lines) x) e (f.shows x k).1
+
+  pub found_by : {s : State} → Fine G s → (x : Fact) → Low G x → (i : ℕ) → 0 < i → line_of G s x ≡ i → Used s i × Shows (line_at s.lines) x i
+  found_by {s} f x low i z e =
+      let h = f.shows x (record { low = low; lined = omega arith }) in
+      ((z, subst (λ n. n < s.used) e h.0), subst (Shows (line_at s.lines) x) e h.1)
 
   pub lead_due : {s : State} {b r : ℕ} {x y : Fact} {e : LineStep} → Fine G s → Used s b → Leads G.pattern b r x y e → Low G y → Shows (line_at s.lines) x b
       → Due G s y.sort (record { form = y.form; first = y.first; second = y.second; run = (line_at s.lines b).run; step = e })
@@ -98,7 +79,7 @@ module _ {C : Type 0} (G : Setting C) where
         first = skip r sh.first;
         second = skip r₂ sh.second;
         spells = λ lines same here. spells_both (ap (λ (m : Line). m.step) here) (spells_lasts G.kinds G.form G.pattern (line_at s.lines) s.used fine.good lines same u.0 u.1 sh.spells);
-        says = λ d. n (skip_rule d);
+        says = λ d. n cc;
       }
   lead_due {s} {b} fine u (both r h) low sh =
       record {
@@ -108,33 +89,26 @@ module _ {C : Type 0} (G : Setting C) where
         first = skip r sh.first;
         second = skip r sh.second;
         spells = λ lines same here. spells_both (ap (λ (m : Line). m.step) here) (spells_lasts G.kinds G.form G.pattern (line_at s.lines) s.used fine.good lines same u.0 u.1 sh.spells);
-        says = λ d. sh.says (skip_rest d);
+        says = λ d. sh.says cc;
       }
-
-  -- a step between facts is a step between equal facts
-  pub lead_at : (b r : ℕ) (e : LineStep) {x x' y y' : Fact} → x' ≡ x → y' ≡ y → Leads G.pattern b r x y e → Leads G.pattern b r x' y' e
-  lead_at b r e d f l = subst₂ (λ x y. Leads G.pattern b r x y e) (sym d) (sym f) l
-
-  pub low_at : {x x' : Fact} → x' ≡ x → Low G x → Low G x'
-  low_at d l = subst (Low G) (sym d) l
-
-  pub then_at : (s t : State) (b : ℕ) {x x' y y' : Fact} → x' ≡ x → y' ≡ y → (line_of G s x' ≡ b → Known G t y') → line_of G s x ≡ b → Known G t y
-  then_at s t b d f h e = subst (Known G t) f (h (ap (line_of G s) d ∙ e))
 
   -- a rule number has one empty rule
   same_skip : (r : ℕ) {p t from to : ℕ} → Skips G.pattern r p t → Skips G.pattern r from to → (p ≡ from) × (t ≡ to)
   same_skip r h k = let e = at_one G.pattern.rules r _ _ h k in (ap (λ (x : Rule C). x.from) e, ap (λ (x : Rule C). x.to) e)
 
   -- the states of line b, as a fact that it shows has them
-  module _ (s : State) (b : ℕ) (l : Line) (fine : Fine G s) (here : line_at s.lines b ≡ l) where
+  module _ (s : State) (b : ℕ) (fine : Fine G s) where
+    abbrev l : Line
+    l = line_at s.lines b
+
     form_at : (x : Fact) → Known G s x → line_of G s x ≡ b → x.form ≡ l.form
-    form_at x k e = sym (shown_by fine x k e).form_is ∙ ap (λ (m : Line). m.form) here
+    form_at x k e = sym (shown_by fine x k e).form_is
 
     first_at : (x : Fact) → Known G s x → line_of G s x ≡ b → x.first ≡ l.first
-    first_at x k e = sym (shown_by fine x k e).first_is ∙ ap (λ (m : Line). m.first) here
+    first_at x k e = sym (shown_by fine x k e).first_is
 
     second_at : (x : Fact) → Known G s x → line_of G s x ≡ b → x.second ≡ l.second
-    second_at x k e = sym (shown_by fine x k e).second_is ∙ ap (λ (m : Line). m.second) here
+    second_at x k e = sym (shown_by fine x k e).second_is
 
     abbrev Then : State → Fact → Fact → Type 0
     Then t x y = line_of G s x ≡ b → Known G t y
@@ -178,23 +152,16 @@ module _ {C : Type 0} (G : Setting C) where
     leads_not r x at n m y z e (forks _ _ d h h₂) k w = absurd (n (ap (λ (v : Rule C). v.to) (at_one G.pattern.rules r _ _ at h) ∙ first_at y k w))
     leads_not r x at n m y z e (both _ h) k w = absurd (n (ap (λ (v : Rule C). v.to) (at_one G.pattern.rules r _ _ at h) ∙ first_at y k w))
 
-    -- the test of a fork
-    abbrev forked_test : ℕ → Rule C → ℕ → ℕ → Bool
-    forked_test i x r from = is_empty x.step && (not (eqb i r) && (eqb x.from from && eqb x.to l.second))
-
     -- rule i was tried beside rule r
     pub fork_done : {t : State} (r from to i : ℕ) (x : Rule C) → Skips G.pattern r from to → At G.pattern.rules i x
-        → (forked_test i x r from ≡ true → Then t (together l.form to l.second) (apart l.form from)) → Forked G s t b r i
+        → (x.step ≡ Empty → (i ≢ r) → x.from ≡ from → x.to ≡ l.second → Then t (together l.form to l.second) (apart l.form from)) → Forked G s t b r i
     fork_done r from to i x rule at done f p u v n h h₂ k w =
         let a = same_skip r h rule in
         let z = at_one G.pattern.rules i _ _ at h₂ in
         let d = form_at (together f u v) k w in
         let c = second_at (together f u v) k w in
-        let test : forked_test i x r from ≡ true =
-        subst (λ (y : Rule C). forked_test i y r from ≡ true) (sym z)
-        (and_from (not (eqb i r)) (eqb p from && eqb v l.second) (ap not (ne_eqb i r (λ m. n (sym m))))
-        (and_from (eqb p from) (eqb v l.second) (eq-eqb p from a.0) (eq-eqb v l.second c))) in
-        moved (λ j. together (d j) (a.1 j) (c j)) (λ j. apart (d j) (a.0 j)) (done test) w
+        let o = done (ap (λ (y : Rule C). y.step) z) (λ m. n (sym m)) (ap (λ (y : Rule C). y.from) z ∙ a.0) (ap (λ (y : Rule C). y.to) z ∙ c) in
+        moved (λ j. together (d j) (a.1 j) (c j)) (λ j. apart (d j) (a.0 j)) o w
 
   -- every step by rule r has an empty rule r
   led_rule : {b r : ℕ} {x y : Fact} {e : LineStep} → Leads G.pattern b r x y e → (p t : ℕ) × Skips G.pattern r p t
@@ -211,21 +178,11 @@ module _ {C : Type 0} (G : Setting C) where
       absurd (n (ap (λ (v : Rule C). v.step) (at_one G.pattern.rules r _ _ at h.2)))
 
   -- the rules of a fork
-  pub fork_leads : (b r from to i second f : ℕ) (x : Rule C) → Skips G.pattern r from to → At G.pattern.rules i x
-      → (is_empty x.step && (not (eqb i r) && (eqb x.from from && eqb x.to second))) ≡ true
+  pub fork_leads : (b r from to i second f : ℕ) (x : Rule C) → Skips G.pattern r from to → At G.pattern.rules i x → x.step ≡ Empty → (i ≢ r) → x.from ≡ from → x.to ≡ second
       → Leads G.pattern b r (together f to second) (apart f from) (LineStep.Both r i b)
-  fork_leads b r from to i second f x rule at test = go x.step refl
-    where
-      go : (y : Step C) → x.step ≡ y → Leads G.pattern b r (together f to second) (apart f from) (LineStep.Both r i b)
-      go (Node c s m) e = absurd (true≢false (sym (and_parts (is_empty x.step) _ test).0 ∙ ap is_empty e))
-      go Empty e =
-          let u = (and_parts (is_empty x.step) _ test).1 in
-          let v = and_parts (not (eqb i r)) _ u in
-          let w = and_parts (eqb x.from from) _ v.1 in
-          let a = eqb-true x.from from w.0 in
-          let c = eqb-true x.to second w.1 in
-          let q : ◌≡◌ {A = Rule C} x (record { from = from; to = second; step = Empty }) = λ j. record { from = a j; to = c j; step = e j } in
-          forks r i (λ m. true≢false (sym v.0 ∙ ap not (eq-eqb i r (sym m)))) rule (subst (At G.pattern.rules i) q at)
+  fork_leads b r from to i second f x rule at e n a c =
+      let q : ◌≡◌ {A = Rule C} x (record { from = from; to = second; step = Empty }) = λ j. record { from = a j; to = c j; step = e j } in
+      forks r i (λ m. n (sym m)) rule (subst (At G.pattern.rules i) q at)
 
   pub forked_on : {s t u : State} (b r r₂ : ℕ) → Grown t u → Forked G s t b r r₂ → Forked G s u b r r₂
   forked_on b r r₂ g d f p v w n h h₂ k e = known_on g _ (d f p v w n h h₂ k e)

@@ -1,4 +1,3 @@
-pub mod Rules
 pub mod Complete
 pub mod Spelling
 pub mod Slots

@@ -1,5 +1,5 @@
 -- From the first lines to facts that nothing can be added to.
-use Rattle.std.proofs.Common.{◌≡◌, ℕ, ◌+◌, ◌<◌, ◌≤◌, true, ◌&&◌, eqb, ltb, None, refl, ap, inl, inr, arith}
+use Rattle.std.proofs.Common.{◌≡◌, ℕ, ◌+◌, ◌<◌, ◌≤◌, true, ◌&&◌, eqb, ltb, None, sym, refl, ap, inl, inr, arith}
 use Rattle.std.proofs.lemmas.Bool.{and_parts, and_from, eq-eqb, lt-ltb, cases_eq}
 use Rattle.table.specs.Sets.{bit}
 use Rattle.table.specs.Table.{Tab}
@@ -28,9 +28,9 @@ moved_to b' (both r h) = (Both r r b', both r h)
 
 module _ {C : Type 0} (G : Setting C) where
   -- three final states make a line
-  pub stop_due : (s : State) (f p q : ℕ) → Low G (poised f p q) → all_final G f p q ≡ true → Due G s Poised (record { form = f; first = p; second = q; run = None; step = Stop })
+  pub stop_due : (s : State) (f p q : ℕ) → Low G (poised f p q) → true ≡ all_final G f p q → Due G s Poised (record { form = f; first = p; second = q; run = None; step = Stop })
   stop_due s f p q low e =
-      let u = and_parts (bit G.form.finals f) (bit G.pattern.finals p && bit G.pattern.finals q) e in
+      let u = and_parts (bit G.form.finals f) (bit G.pattern.finals p && bit G.pattern.finals q) (sym e) in
       let v = and_parts (bit G.pattern.finals p) (bit G.pattern.finals q) u.1 in
       record {
         low = low;
@@ -51,13 +51,6 @@ module _ {C : Type 0} (G : Setting C) where
       let e = g.old (slot G.forms G.states x) h in
       (e, record { low = k.low; lined = let z = k.lined in omega arith })
 
-  pub tried_none : (s : State) → Tried G s 1 1
-  tried_none s =
-      record {
-        empties = λ r x y e l k h. let z = k.lined in absurd (omega arith);
-        joins = λ k r₀ r₁ r₂ x y z j a b h i. let m = a.lined in absurd (omega arith);
-      }
-
   module _ {s t : State} (a b : ℕ) (on : On G s t) (tried : Tried G s a b) where
     -- one line more was taken as what follows
     pub tried_after : b < s.used → a ≤ b → Followed G s t a b → Tried G t a (b + 1)
@@ -76,11 +69,9 @@ module _ {C : Type 0} (G : Setting C) where
               let v = known_old on.grown y q (omega arith) in
               let d = u.0 in
               let e = v.0 in
-              let l = u.1.lined in
               elim (cases_eq (line_of G s y) b) [
                 | inl w ↦ followed.joins r₀ r₁ r₂ k x y z j u.1 v.1
-                    (and_from (eqb (line_of G s y) b) (ltb 0 (line_of G s x) && ltb (line_of G s x) a) (eq-eqb (line_of G s y) b w)
-                    (and_from (ltb 0 (line_of G s x)) (ltb (line_of G s x) a) (lt-ltb 0 (line_of G s x) l) (lt-ltb (line_of G s x) a (omega arith))))
+                    (and_from (eqb (line_of G s y) b) (ltb (line_of G s x) a) (eq-eqb (line_of G s y) b w) (lt-ltb (line_of G s x) a (omega arith)))
                 | inr w ↦ known_on on.grown z (tried.joins k r₀ r₁ r₂ x y z j u.1 v.1 (omega arith) (omega arith))
               ];
         }
@@ -99,11 +90,9 @@ module _ {C : Type 0} (G : Setting C) where
               let v = known_old on.grown y q (omega arith) in
               let d = u.0 in
               let e = v.0 in
-              let l = v.1.lined in
               elim (cases_eq (line_of G s x) a) [
                 | inl w ↦ crossed r₀ r₁ r₂ k x y z j u.1 v.1
-                    (and_from (eqb (line_of G s x) a) (ltb 0 (line_of G s y) && ltb (line_of G s y) b) (eq-eqb (line_of G s x) a w)
-                    (and_from (ltb 0 (line_of G s y)) (ltb (line_of G s y) b) (lt-ltb 0 (line_of G s y) l) (lt-ltb (line_of G s y) b (omega arith))))
+                    (and_from (eqb (line_of G s x) a) (ltb (line_of G s y) b) (eq-eqb (line_of G s x) a w) (lt-ltb (line_of G s y) b (omega arith)))
                 | inr w ↦ known_on on.grown z (tried.joins k r₀ r₁ r₂ x y z j u.1 v.1 (omega arith) (omega arith))
               ];
         }

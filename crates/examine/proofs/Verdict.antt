@@ -1,29 +1,31 @@
 -- What a search that is over says.
-use Rattle.std.proofs.Common.{◌≡◌, ℕ, zero, suc, ◌+◌, ◌<◌, ◌≤◌, Bool, true, not, ◌&&◌, ◌||◌, eqb, List, length, get_or, Some, None, Ok, Err, Option, Result, sym, refl, ap, ◌∙◌, subst, inl, inr, arith, MatchResult}
+use Rattle.std.proofs.Common.{◌≡◌, ℕ, zero, suc, ◌+◌, ◌<◌, ◌≤◌, Bool, true, not, ◌&&◌, ◌||◌, eqb, List, length, get_or, Some, None, Ok, Err, Option, Result, sym, refl, ap, ◌∙◌, subst, arith, MatchResult}
 use native.Mathlib.Decide.{ℕ_discrete}
 use Rattle.std.proofs.lemmas.Bool.{and_parts, and_from, eq-eqb, ne_eqb, true≢false}
 use Rattle.record.specs.declared.run.Node.{Node as Seen}
 use Rattle.record.specs.Run.{run_at}
+use Rattle.table.proofs.Meaning.{states_counted}
 use Rattle.table.specs.Sets.{bit, Bit}
 use Rattle.table.specs.Table.{Tab}
-use Rattle.table.specs.declared.fault.Role.{Role}
 use Rattle.table.specs.declared.fault.Role.TheVariants.{Form}
-use Rattle.table.specs.Check.{limit, SoundTable, Named, StateCount}
+use Rattle.table.specs.Check.{SoundTable, StateCount}
 use Rattle.table.specs.Reading.{Reading, Reads, Whole, Twofold}
 use Rattle.examine.specs.declared.fact.Sort.{Sort}
 use Rattle.examine.specs.declared.fact.Sort.TheVariants.{Together, Poised, Apart}
 use Rattle.examine.specs.declared.fact.Fact.{Fact}
 use Rattle.examine.specs.declared.line.Line.{Line}
+use Rattle.examine.specs.declared.product.DoubleAt.{DoubleAt}
 use Rattle.examine.specs.declared.line.LineStep.{LineStep}
 use Rattle.examine.specs.declared.line.LineStep.TheVariants.{Stop, First, Second, Both, Node}
 use Rattle.examine.specs.Facts.{together, apart, Says, Closed, Plain}
 use Rattle.examine.specs.Lines.{line_at, Follows, Good}
 use Rattle.examine.specs.Sheet.{lower_only, lowered, shown}
-use Rattle.examine.specs.Search.{Setting, State, Went, slot, most, is_apart, Shows, Bounded, Known, Fine, Found}
-use Rattle.examine.specs.Examine.{run_of, Shown}
+use Rattle.examine.specs.Search.{Setting, State, Went, slot, most, is_apart, Shows, Bounded, Known, Fine, SameLists, Found}
+use Rattle.examine.specs.Examine.{Examinable, run_of, Shown}
 use Rattle.examine.proofs.Complete.{together as together_known, apart as apart_known}
 use Rattle.examine.proofs.Spelling.{spells_read}
-use Rattle.examine.proofs.Shown.{shown_at, shown_lower, lower_some}
+use Rattle.examine.specs.Places.{shown_lower}
+use Rattle.examine.proofs.Shown.{shown_at, lower_some}
 use Rattle.examine.proofs.Slots.{slot_low}
 
 -- a good line names lower lines for its run
@@ -32,7 +34,7 @@ module _ {C : Type 0} (kinds : C → ℕ → Bool) (F P : Tab C) (lines : ℕ �
   Falls j = (m : Seen) → (lines j).run ≡ Some m → (m.inside < j) × (m.after < j)
 
   falls : (j : ℕ) (s : LineStep) → Follows kinds F P lines j (lines j) s → ((i : ℕ) → 0 < i → i < j → Falls i) → Falls j
-  falls j Stop g ih m e = let z : ◌≡◌ {A = ℕ} 0 1 = let d = g.0 in cc in absurd (omega arith)
+  falls j Stop g ih m e = let d = g.0 in cc
   falls j (First r i) g ih m e = let h = ih i g.0.0 g.0.1 m (g.1.1 ∙ e) in let b = g.0.1 in (omega arith, omega arith)
   falls j (Second r i) g ih m e = let h = ih i g.0.0 g.0.1 m (g.1.1 ∙ e) in let b = g.0.1 in (omega arith, omega arith)
   falls j (Both r r₂ i) g ih m e = let h = ih i g.0.0 g.0.1 m (g.1.1 ∙ e) in let b = g.0.1 in (omega arith, omega arith)
@@ -152,9 +154,9 @@ module _ {C : Type 0} (G : Setting C) where
           (and_from (bit P.starts one.state) (bit P.starts other.state) one.starts other.starts) (ap not (ne_eqb one.state other.state n)))) ∙ fine.free (together fits.state one.state other.state) k)
 
   -- nothing is known at the start
-  pub fine_first : (lines : List Line) (slots : List ℕ) → Bounded G → most G.forms G.states < length lines → most G.forms G.states ≤ length slots
-      → ((i : ℕ) → i < most G.forms G.states → get_or slots i 0 ≡ 0) → Fine G (record { lines = lines; slots = slots; used = 1 })
-  fine_first lines slots bounded room space clear =
+  pub fine_first : (s : State) → s.used ≡ 1 → Bounded G → most G.forms G.states < length s.lines → most G.forms G.states ≤ length s.slots
+      → ((i : ℕ) → i < most G.forms G.states → get_or s.slots i 0 ≡ 0) → Fine G s
+  fine_first s one bounded room space clear =
       record {
         bounded = bounded;
         room = room;
@@ -168,34 +170,32 @@ module _ {C : Type 0} (G : Setting C) where
         free = λ x k. absurd (none x k);
       }
     where
-      none : (x : Fact) → Known G (record { lines = lines; slots = slots; used = 1 }) x → ⊥
+      none : (x : Fact) → Known G s x → ⊥
       none x k = let h = k.lined in let e = clear (slot G.forms G.states x) (slot_low G x k.low) in omega arith
 
   -- what the search answers
-  pub verdict_of : (s t : State) (r : Result (Unit {0}) ℕ) → Plain F → most G.forms G.states ≤ 400000
-      → Went G s t (Closed G.kinds F P (Known G t)) r
-      → MatchResult r (λ _. Twofold G.kinds F P → ⊥) (λ top. Twofold G.kinds F P × Shown G.kinds F P t.lines top)
-  verdict_of s t (Ok u) plain few w = closed_single plain w.0.fine w.1
-  verdict_of s t (Err top) plain few w = (found_twofold t top w few, found_shown t top w few)
+  pub verdict_of : (s t : State) (r : Result (Unit {0}) DoubleAt) → Plain F → most G.forms G.states ≤ 400000
+      → Went G s t (λ G _ t. Closed G.kinds G.form G.pattern (Known G t)) r
+      → SameLists s t × MatchResult r (λ _. Twofold G.kinds F P → ⊥) (λ d. Twofold G.kinds F P × Shown G.kinds F P t.lines d.top)
+  verdict_of s t (Ok u) plain few w = (w.0.same, closed_single plain w.0.fine w.1)
+  verdict_of s t (Err d) plain few w = (w.0, (found_twofold t d.top w.1 few, found_shown t d.top w.1 few))
 
   -- the same, of the list that lent the lines
-  pub lent_verdict : (lines lent : List Line) (r : Result (Unit {0}) ℕ)
-      → MatchResult r (λ _. Twofold G.kinds F P → ⊥) (λ top. Twofold G.kinds F P × Shown G.kinds F P lines top) → lent ≡ lines
-      → MatchResult r (λ _. Twofold G.kinds F P → ⊥) (λ top. Twofold G.kinds F P × Shown G.kinds F P lent top)
-  lent_verdict lines lent r v e = subst (λ (x : List Line). MatchResult r (λ _. Twofold G.kinds F P → ⊥) (λ top. Twofold G.kinds F P × Shown G.kinds F P x top)) (sym e) v
+  pub lent_verdict : (lines lent : List Line) (r : Result (Unit {0}) DoubleAt)
+      → MatchResult r (λ _. Twofold G.kinds F P → ⊥) (λ d. Twofold G.kinds F P × Shown G.kinds F P lines d.top) → lent ≡ lines
+      → MatchResult r (λ _. Twofold G.kinds F P → ⊥) (λ d. Twofold G.kinds F P × Shown G.kinds F P lent d.top)
+  lent_verdict lines lent r v e = rw e v
 
 -- a sound form has no empty rule
 pub sound_plain : {C : Type 0} (T : Tab C) → SoundTable Form T → Plain T
 sound_plain T s r q t h = (s.rules r _ h).placed refl
 
-named_low : {C : Type 0} (role : Role) (T : Tab C) → SoundTable role T → (q : ℕ) → Named T q → q < limit role
-named_low role T s q (inl e) = s.ends q e
-named_low role T s q (inr (i, x, at, n)) = (s.rules i x at).below q n
-
--- a sound table has few states
-pub count_few : {C : Type 0} (role : Role) (T : Tab C) (n : ℕ) → SoundTable role T → StateCount T n → n ≤ limit role
-count_few role T n s c =
-    elim c.tight [
-      | inl e ↦ subst (λ m. m ≤ limit role) (sym e) (omega arith)
-      | inr u ↦ let h = named_low role T s u.0 u.2 in let e = u.1 in omega arith
-    ]
+-- lists that suffice have room for a line and a number for each fact
+pub room_for : {C : Type 0} (F P : Tab C) (m n lines numbers : ℕ) → Examinable F P lines numbers → StateCount F m → StateCount P n → (most m n < lines) × (most m n < numbers)
+room_for F P m n lines numbers x a b =
+    let e = (states_counted F).only m x.needs.forms a x.needs.forms_are in
+    let d = (states_counted P).only n x.needs.states b x.needs.states_are in
+    let is : x.needed ≡ most m n + 1 = rw (e, d) x.needs.is in
+    let r = x.room in
+    let s = x.space in
+    (omega arith, omega arith)

@@ -9,17 +9,21 @@ use Rattle.examine.specs.declared.fact.Fact.{Fact}
 use Rattle.examine.specs.declared.line.LineStep.{LineStep}
 use Rattle.examine.specs.declared.line.LineStep.TheVariants.{First, Second, Both}
 
+-- the fact of a sort about three states
+abbrev pub about : Sort → ℕ → ℕ → ℕ → Fact
+about x f p q = record { sort = x; form = f; first = p; second = q }
+
 -- some run is read from f by the form, and from p and from q by the pattern
 abbrev pub together : ℕ → ℕ → ℕ → Fact
-together f p q = record { sort = Together; form = f; first = p; second = q }
+together f p q = about Together f p q
 
 -- and the reading from q does not begin with an empty rule
 abbrev pub poised : ℕ → ℕ → ℕ → Fact
-poised f p q = record { sort = Poised; form = f; first = p; second = q }
+poised f p q = about Poised f p q
 
 -- and the two pattern readings, both from p, differ
 abbrev pub apart : ℕ → ℕ → Fact
-apart f p = record { sort = Apart; form = f; first = p; second = p }
+apart f p = about Apart f p p
 
 -- a reading's first step is no empty rule
 abbrev pub Steady : Reading → Type 0

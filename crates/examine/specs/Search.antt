@@ -1,10 +1,9 @@
 -- What the parts of the search find and leave; no promise to a caller of the crate.
 use Rattle.std.specs.Prelude.{◌≡◌, ℕ, zero, suc, ◌+◌, ◌*◌, ◌<◌, ◌≤◌, Bool, true, false, cond, not, ◌&&◌, ◌||◌, List, length, Ok, Err, Result, ◌==◌, ◌≢◌, slice_index, slice_set}
+use Rattle.std.specs.Borrow.{GName}
 use Rattle.table.specs.Sets.{bit}
 use Rattle.table.specs.Table.{Tab, tab}
 use Rattle.table.specs.Reading.{Reading, Skips}
-use Rattle.table.specs.declared.rule.Step.{Step}
-use Rattle.table.specs.declared.rule.Step.TheVariants.{Empty, Node}
 use Rattle.table.specs.Check.{Named}
 use Rattle.examine.specs.declared.fact.Sort.{Sort}
 use Rattle.examine.specs.declared.fact.Sort.TheVariants.{Together, Poised, Apart}
@@ -13,7 +12,8 @@ use Rattle.examine.specs.declared.line.Line.{Line}
 use Rattle.examine.specs.declared.line.LineStep.{LineStep}
 use Rattle.examine.specs.declared.product.Product.{Product}
 use Rattle.examine.specs.declared.product.Draft.{Draft}
-use Rattle.examine.specs.Facts.{together, poised, apart, Says, Leads}
+use Rattle.examine.specs.declared.product.DoubleAt.{DoubleAt}
+use Rattle.examine.specs.Facts.{about, together, poised, apart, Says, Leads}
 use Rattle.examine.specs.Lines.{line_at, Follows, Good, Spells}
 
 -- a form and a pattern with their state counts
@@ -27,14 +27,16 @@ pub record Setting (C : Type 0) : Type 0 where
 abbrev pub setting : {C : Type 0} → (C → ℕ → Bool) → Product C → Setting C
 setting kinds p = record { kinds = kinds; form = tab p.form; pattern = tab p.pattern; forms = p.forms; states = p.states }
 
--- lines, the numbers of the helper, and how many lines are used
+-- lines, the numbers of the helper, how many lines are used, and which two lists these are
 pub record State : Type 0 where
   pub lines : List Line
   pub slots : List ℕ
   pub used : ℕ
+  pub sheet : GName
+  pub helper : GName
 
 abbrev pub state : Draft → State
-state d = record { lines = d.lines.now; slots = d.helper.now; used = d.used }
+state d = record { lines = d.lines.now; slots = d.helper.now; used = d.used; sheet = d.lines.ghost_name; helper = d.helper.ghost_name }
 
 abbrev pub code : Sort → ℕ
 code Together = 0
@@ -74,7 +76,7 @@ count xs (suc m) = count xs m + one_if (slice_index xs m)
 
 -- the fact that a line of these states may show
 abbrev pub told : Sort → Line → Fact
-told x l = record { sort = x; form = l.form; first = l.first; second = l.second }
+told x l = about x l.form l.first l.second
 
 -- line j shows a fact: it has its states, and spells readings of which the fact is true
 pub record Shows (lines : ℕ → Line) (x : Fact) (j : ℕ) : Type 0 where
@@ -134,10 +136,15 @@ pub record Grown (s t : State) : Type 0 where
   pub kept : (i : ℕ) → 0 < slice_index s.slots i → slice_index t.slots i ≡ slice_index s.slots i
   pub old : (i : ℕ) → slice_index t.slots i < s.used → slice_index t.slots i ≡ slice_index s.slots i
 
+-- the two lists are the same
+abbrev pub SameLists : State → State → Type 0
+SameLists s t = (t.sheet ≡ s.sheet) × (t.helper ≡ s.helper)
+
 -- the search goes on
 pub record On {C : Type 0} (G : Setting C) (s t : State) : Type 0 where
   pub fine : Fine G t
   pub grown : Grown s t
+  pub same : SameLists s t
 
 -- the top line shows a double
 pub record Found {C : Type 0} (G : Setting C) (s : State) (top : ℕ) : Type 0 where
@@ -150,9 +157,9 @@ pub record Found {C : Type 0} (G : Setting C) (s : State) (top : ℕ) : Type 0 w
   pub double : doubles G fact ≡ true
 
 -- the search goes on with something done, or it has found a double
-abbrev pub Went : {C : Type 0} → Setting C → State → State → Type 0 → Result (Unit {0}) ℕ → Type 0
-Went G s t D (Ok u) = On G s t × D
-Went G s t D (Err top) = Found G t top
+abbrev pub Went : {C : Type 0} → Setting C → State → State → (Setting C → State → State → Type 0) → Result (Unit {0}) DoubleAt → Type 0
+Went G s t D (Ok u) = On G s t × D G s t
+Went G s t D (Err d) = SameLists s t × Found G t d.top
 
 -- a line may be added, for a fact of this sort
 pub record Due {C : Type 0} (G : Setting C) (s : State) (x : Sort) (l : Line) : Type 0 where
@@ -168,6 +175,18 @@ pub record Due {C : Type 0} (G : Setting C) (s : State) (x : Sort) (l : Line) : 
 abbrev pub Used : State → ℕ → Type 0
 Used s b = (0 < b) × (b < s.used)
 
+-- the draft is fine, and line b is one of its lines
+pub record Ready {C : Type 0} (G : Setting C) (s : State) (b : ℕ) : Type 0 where
+  pub fine : Fine G s
+  pub used : Used s b
+
+-- an empty rule leads from a fact, which line b may show, to another, both of states below the state counts
+pub record Leading {C : Type 0} (G : Setting C) (b : ℕ) (x y : Fact) (e : LineStep) : Type 0 where
+  pub before : Low G x
+  pub after : Low G y
+  pub rule : ℕ
+  pub leads : Leads G.pattern b rule x y e
+
 -- what empty rule r leads to, from the facts that line b shows, is known
 abbrev pub LedBy : {C : Type 0} → Setting C → State → State → ℕ → ℕ → Type 0
 LedBy G s t b r = (x y : Fact) (e : LineStep) → Leads G.pattern b r x y e → Known G s x → line_of G s x ≡ b → Known G t y
@@ -175,7 +194,3 @@ LedBy G s t b r = (x y : Fact) (e : LineStep) → Leads G.pattern b r x y e → 
 -- what the two empty rules r and r₂ lead to
 abbrev pub Forked : {C : Type 0} → Setting C → State → State → ℕ → ℕ → ℕ → Type 0
 Forked G s t b r r₂ = (f p u v : ℕ) → (r ≢ r₂) → Skips G.pattern r p u → Skips G.pattern r₂ p v → Known G s (together f u v) → line_of G s (together f u v) ≡ b → Known G t (apart f p)
-
-abbrev pub is_empty : {C : Type 0} → Step C → Bool
-is_empty Empty = true
-is_empty (Node c s m) = false

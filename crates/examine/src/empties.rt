@@ -1,25 +1,13 @@
-ghost use Rattle.std.specs.Prelude.{◌≡◌, ℕ, ◌*◌, ◌<◌, false, not, ◌&&◌, ◌==◌};
-ghost use Rattle.table.specs.Table.{tab, At};
+ghost use Rattle.std.specs.Prelude.{◌≡◌, ℕ};
+ghost use Rattle.table.specs.Table.{tab};
 ghost use Rattle.table.specs.Reading.{Skips};
-ghost use Rattle.examine.specs.Facts.{Leads};
-ghost use Rattle.examine.specs.Lines.{line_at};
-ghost use Rattle.examine.specs.Search.{setting, state, Low, line_of, Known, Fine, Went, Used, LedBy, Forked, is_empty};
+ghost use Rattle.examine.specs.Search.{setting, state, line_of, Known, Ready, Went, Leading, LedBy, Forked};
 
-use crate::fact::Fact;
+use crate::fact::{Fact, Sort};
 use crate::line::{Line, LineStep};
-use crate::product::{Draft, Product};
+use crate::product::{DoubleAt, Draft, Product};
+use crate::turn::Skip;
 use table::class::Class;
-use table::rule::{Rule, Step};
-
-// Whether rule i is another empty rule than r, from this state to that one.
-fn parts<C: Class>(i: usize, rule: Rule<C>, r: usize, from: u8, to: u8) -> bool
-    ensures { result ≡ (is_empty rule.step && (not (i == r) && (rule.from == from && rule.to == to))) }
-{
-    match rule.step {
-        Step::Empty => i != r && rule.from == from && rule.to == to,
-        Step::Node { .. } => false,
-    }
-}
 
 impl<'f, 'p, C: Class> Product<'f, 'p, C> {
     // A line for the fact `next`, which follows by empty rules from the fact `known`, if line b shows that.
@@ -30,150 +18,97 @@ impl<'f, 'p, C: Class> Product<'f, 'p, C> {
         known: Fact,
         next: Fact,
         step: LineStep,
-    ) -> Result<(), usize>
-        requires fine { Fine (setting C.Class.kinds self.now) (state draft.old) }
-        requires used { Used (state draft.old) b }
-        requires before { Low (setting C.Class.kinds self.now) known }
-        requires after { Low (setting C.Class.kinds self.now) next }
-        requires leads { (r : ℕ) × Leads (tab self.now.pattern) b r known next step }
-        ensures went { Went (setting C.Class.kinds self.now) (state draft.old) (state draft.new)
-            (line_of (setting C.Class.kinds self.now) (state draft.old) known ≡ b → Known (setting C.Class.kinds self.now) (state draft.new) next) result }
-        ensures lines { draft.new.lines.ghost_name ≡ draft.old.lines.ghost_name }
-        ensures helper { draft.new.helper.ghost_name ≡ draft.old.helper.ghost_name }
+    ) -> Result<(), DoubleAt>
+        requires ready { Ready (setting C.Class.kinds self.now) (state draft.old) b }
+        requires leads { Leading (setting C.Class.kinds self.now) b known next step }
+        ensures { Went (setting C.Class.kinds self.now) (state draft.old) (state draft.new)
+            (λ G s t. line_of G s known ≡ b → Known G t next) result }
     {
-        if self.find(draft, known) != b {
+        if self.find(draft, known) != Some(b) {
             return Ok(());
         }
-        let line = draft.lines[b];
-        let led = Line {
+        let line = Line {
             form: next.form,
             first: next.first,
             second: next.second,
-            run: line.run,
+            run: draft.lines[b].run,
             step,
         };
-        self.claim(draft, next.sort, led)
+        self.claim(draft, next.sort, line)
     }
 
-    // The first reading takes empty rule r and the second another one, both from state `from`, to what line b shows.
-    fn forks(
-        &self,
-        draft: &mut Draft,
-        b: usize,
-        line: Line,
-        r: usize,
-        from: u8,
-        to: u8,
-    ) -> Result<(), usize>
-        requires fine { Fine (setting C.Class.kinds self.now) (state draft.old) }
-        requires used { Used (state draft.old) b }
-        requires line { line_at draft.old.lines.now b ≡ line }
-        requires rule { Skips (tab self.now.pattern) r from to }
-        ensures went { Went (setting C.Class.kinds self.now) (state draft.old) (state draft.new)
-            ((s : ℕ) → Forked (setting C.Class.kinds self.now) (state draft.old) (state draft.new) b r s) result }
-        ensures lines { draft.new.lines.ghost_name ≡ draft.old.lines.ghost_name }
-        ensures helper { draft.new.helper.ghost_name ≡ draft.old.helper.ghost_name }
+    // The first reading takes an empty rule and the second another one, both from its state, to what line b shows.
+    fn forks(&self, draft: &mut Draft, b: usize, skip: Skip) -> Result<(), DoubleAt>
+        requires ready { Ready (setting C.Class.kinds self.now) (state draft.old) b }
+        requires rule { Skips (tab self.now.pattern) skip.rule skip.from skip.to }
+        ensures { Went (setting C.Class.kinds self.now) (state draft.old) (state draft.new)
+            (λ G s t. (r : ℕ) → Forked G s t b skip.rule r) result }
     {
-        let known = Fact::together(line.form, to, line.second);
-        let next = Fact::apart(line.form, from);
+        let line = draft.lines[b];
+        let known = Sort::Together.about(line.form, skip.to, line.second);
+        let next = Sort::Apart.about(line.form, skip.from, skip.from);
         for (i, rule) in self.pattern.rules.iter().enumerate() {
-            if !parts(i, *rule, r, from, line.second) {
+            let Some(other) = Skip::of(i, rule) else {
+                continue;
+            };
+            if i == skip.rule || other.from != skip.from || other.to != line.second {
                 continue;
             }
-            self.lead(
-                draft,
-                b,
-                known,
-                next,
-                LineStep::Both {
-                    first: r,
-                    second: i,
-                    line: b,
-                },
-            )?;
+            let step = LineStep::Both {
+                first: skip.rule,
+                second: i,
+                line: b,
+            };
+            self.lead(draft, b, known, next, step)?;
         }
         Ok(())
     }
 
-    // Empty rule r to what line b shows: taken by the first reading, by the second, or by both.
-    fn skips(
-        &self,
-        draft: &mut Draft,
-        b: usize,
-        line: Line,
-        r: usize,
-        from: u8,
-        to: u8,
-    ) -> Result<(), usize>
-        requires fine { Fine (setting C.Class.kinds self.now) (state draft.old) }
-        requires used { Used (state draft.old) b }
-        requires line { line_at draft.old.lines.now b ≡ line }
-        requires rule { Skips (tab self.now.pattern) r from to }
-        ensures went { Went (setting C.Class.kinds self.now) (state draft.old) (state draft.new)
-            (LedBy (setting C.Class.kinds self.now) (state draft.old) (state draft.new) b r) result }
-        ensures lines { draft.new.lines.ghost_name ≡ draft.old.lines.ghost_name }
-        ensures helper { draft.new.helper.ghost_name ≡ draft.old.helper.ghost_name }
+    // An empty rule to what line b shows: taken by the first reading, by the second, or by both.
+    fn skips(&self, draft: &mut Draft, b: usize, skip: Skip) -> Result<(), DoubleAt>
+        requires ready { Ready (setting C.Class.kinds self.now) (state draft.old) b }
+        requires rule { Skips (tab self.now.pattern) skip.rule skip.from skip.to }
+        ensures { Went (setting C.Class.kinds self.now) (state draft.old) (state draft.new)
+            (λ G s t. LedBy G s t b skip.rule) result }
     {
+        let Skip { rule, from, to } = skip;
+        let line = draft.lines[b];
         let form = line.form;
-        let first = LineStep::First { rule: r, line: b };
-        let slip = Fact::poised(form, to, line.second);
-        let slipped = Fact::poised(form, from, line.second);
-        self.lead(draft, b, slip, slipped, first)?;
-        let against = Fact::poised(form, to, from);
-        let apart = Fact::apart(form, from);
+        let first = LineStep::First { rule, line: b };
+        let slips = Sort::Poised.about(form, to, line.second);
+        let slipped = Sort::Poised.about(form, from, line.second);
+        self.lead(draft, b, slips, slipped, first)?;
+        let against = Sort::Poised.about(form, to, from);
+        let apart = Sort::Apart.about(form, from, from);
         self.lead(draft, b, against, apart, first)?;
-        let second = LineStep::Second { rule: r, line: b };
-        let slide = Fact::together(form, line.first, to);
-        let slid = Fact::together(form, line.first, from);
-        self.lead(draft, b, slide, slid, second)?;
+        let second = LineStep::Second { rule, line: b };
+        let slides = Sort::Together.about(form, line.first, to);
+        let slid = Sort::Together.about(form, line.first, from);
+        self.lead(draft, b, slides, slid, second)?;
         let both = LineStep::Both {
-            first: r,
-            second: r,
+            first: rule,
+            second: rule,
             line: b,
         };
-        self.lead(draft, b, Fact::apart(form, to), apart, both)?;
-        self.forks(draft, b, line, r, from, to)
-    }
-
-    // Rule r, if it is an empty rule to a state of line b.
-    fn skips_by(
-        &self,
-        draft: &mut Draft,
-        b: usize,
-        line: Line,
-        r: usize,
-        rule: Rule<C>,
-    ) -> Result<(), usize>
-        requires fine { Fine (setting C.Class.kinds self.now) (state draft.old) }
-        requires used { Used (state draft.old) b }
-        requires line { line_at draft.old.lines.now b ≡ line }
-        requires rule { At self.now.pattern.rules.now r rule }
-        ensures went { Went (setting C.Class.kinds self.now) (state draft.old) (state draft.new)
-            (LedBy (setting C.Class.kinds self.now) (state draft.old) (state draft.new) b r) result }
-        ensures lines { draft.new.lines.ghost_name ≡ draft.old.lines.ghost_name }
-        ensures helper { draft.new.helper.ghost_name ≡ draft.old.helper.ghost_name }
-    {
-        let Step::Empty = rule.step else {
-            return Ok(());
-        };
-        if rule.to != line.first && rule.to != line.second {
-            return Ok(());
-        }
-        self.skips(draft, b, line, r, rule.from, rule.to)
+        self.lead(draft, b, Sort::Apart.about(form, to, to), apart, both)?;
+        self.forks(draft, b, skip)
     }
 
     // Every empty rule to what line b shows.
-    pub(crate) fn empties(&self, draft: &mut Draft, b: usize) -> Result<(), usize>
-        requires fine { Fine (setting C.Class.kinds self.now) (state draft.old) }
-        requires used { Used (state draft.old) b }
-        ensures went { Went (setting C.Class.kinds self.now) (state draft.old) (state draft.new)
-            ((r : ℕ) → LedBy (setting C.Class.kinds self.now) (state draft.old) (state draft.new) b r) result }
-        ensures lines { draft.new.lines.ghost_name ≡ draft.old.lines.ghost_name }
-        ensures helper { draft.new.helper.ghost_name ≡ draft.old.helper.ghost_name }
+    pub(crate) fn empties(&self, draft: &mut Draft, b: usize) -> Result<(), DoubleAt>
+        requires { Ready (setting C.Class.kinds self.now) (state draft.old) b }
+        ensures { Went (setting C.Class.kinds self.now) (state draft.old) (state draft.new)
+            (λ G s t. (r : ℕ) → LedBy G s t b r) result }
     {
         let line = draft.lines[b];
-        for (r, rule) in self.pattern.rules.iter().enumerate() {
-            self.skips_by(draft, b, line, r, *rule)?;
+        for (i, rule) in self.pattern.rules.iter().enumerate() {
+            let Some(skip) = Skip::of(i, rule) else {
+                continue;
+            };
+            if skip.to != line.first && skip.to != line.second {
+                continue;
+            }
+            self.skips(draft, b, skip)?;
         }
         Ok(())
     }

@@ -1,52 +1,48 @@
-ghost use Rattle.std.specs.Prelude.{◌≡◌, ℕ, ◌+◌, ◌*◌, ◌<◌, ◌≤◌, length, MatchResult, slice_index};
+ghost use Rattle.std.specs.Prelude.{◌≡◌, length, MatchResult};
+ghost use Rattle.table.specs.Fault.{refusal};
 ghost use Rattle.table.specs.Table.{tab};
-ghost use Rattle.table.specs.Check.{StateCount, SoundTable};
 ghost use Rattle.table.specs.Reading.{Twofold};
-ghost use Rattle.table.specs.declared.fault.Role.TheVariants.{Form, Pattern};
-ghost use Rattle.examine.specs.Search.{most};
-ghost use Rattle.examine.specs.Examine.{Examines, Shown};
+ghost use Rattle.table.specs.declared.fault.Role.TheVariants.{Pattern};
+ghost use Rattle.table.specs.declared.fault.Cause.TheVariants.{Double};
+ghost use Rattle.examine.specs.Examine.{Examinable, Examines, Shown};
 
 use crate::line::Line;
-use crate::product::{Draft, Product};
+use crate::product::{DoubleAt, Draft, Product};
+use crate::size::lines_needed;
 use table::check::{check, state_count};
 use table::class::Class;
 use table::fault::{Cause, Fault, Role};
 use table::table::Table;
 
-// Clears the first numbers of a list.
-fn clear(numbers: &mut [u32], count: usize)
-    requires { count ≤ length numbers.old }
-    ensures { (i : ℕ) → i < count → slice_index numbers.new i ≡ 0 }
-{
-    for i in 0..count {
-        numbers[i] = 0;
+impl From<DoubleAt> for Fault {
+    ghost from_gives = { λ d e. e ≡ refusal Pattern Double d.top };
+
+    fn from(double: DoubleAt) -> Fault {
+        Fault {
+            role: Role::Pattern,
+            cause: Cause::Double,
+            place: double.top,
+        }
     }
 }
 
-// Whether no run is twofold under two tables that passed the check; `Err` is the line of the sheet that shows one that is.
+// Whether no run is twofold under two tables that passed the check; else the line of the sheet that shows one that is.
 fn decide<C: Class>(
     form: Table<C>,
     pattern: Table<C>,
-    forms: usize,
-    states: usize,
     sheet: &mut [Line],
     helper: &mut [u32],
-) -> Result<(), usize>
-    requires form { SoundTable Form (tab form) }
-    requires pattern { SoundTable Pattern (tab pattern) }
-    requires forms { StateCount (tab form) forms }
-    requires states { StateCount (tab pattern) states }
-    requires room { most forms states < length sheet.old }
-    requires space { most forms states < length helper.old }
+) -> Result<(), DoubleAt>
+    requires { Examinable (tab form) (tab pattern) (length sheet.old) (length helper.old) }
     ensures { MatchResult result (λ _. Twofold C.Class.kinds (tab form.entry) (tab pattern.entry) → ⊥)
-        (λ top. Twofold C.Class.kinds (tab form.entry) (tab pattern.entry) × Shown C.Class.kinds (tab form.entry) (tab pattern.entry) sheet.new top) }
+        (λ d. Twofold C.Class.kinds (tab form.entry) (tab pattern.entry) × Shown C.Class.kinds (tab form.entry) (tab pattern.entry) sheet.new d.top) }
 {
-    clear(helper, 3 * forms * states * states);
+    helper.fill(0);
     let product = Product {
         form,
         pattern,
-        forms,
-        states,
+        forms: state_count(form),
+        states: state_count(pattern),
     };
     let mut draft = Draft {
         lines: sheet,
@@ -69,9 +65,7 @@ pub fn examine<C: Class>(
 {
     check(Role::Form, form)?;
     check(Role::Pattern, pattern)?;
-    let forms = state_count(form);
-    let states = state_count(pattern);
-    let needed = 3 * forms * states * states + 1;
+    let needed = lines_needed(form, pattern);
     if sheet.len() < needed || helper.len() < needed {
         return Err(Fault {
             role: Role::Pattern,
@@ -79,12 +73,6 @@ pub fn examine<C: Class>(
             place: needed,
         });
     }
-    match decide(form, pattern, forms, states, sheet, helper) {
-        Ok(()) => Ok(()),
-        Err(top) => Err(Fault {
-            role: Role::Pattern,
-            cause: Cause::Double,
-            place: top,
-        }),
-    }
+    decide(form, pattern, sheet, &mut helper[..needed])?;
+    Ok(())
 }

@@ -1,10 +1,12 @@
 ghost use Rattle.std.specs.Prelude.{◌≡◌};
-ghost use Rattle.examine.specs.Facts.{together, poised, apart};
-ghost use Rattle.examine.specs.Search.{code, rest, is_apart};
+ghost use Rattle.examine.specs.Facts.{about};
+ghost use Rattle.examine.specs.Search.{rest, told};
+
+use crate::line::Line;
 
 // What is known of a run that is read from a form state and from two pattern states: no more than that (together),
 // that the second reading does not begin with an empty rule (poised), or that the two pattern readings differ (apart).
-#[derive(Clone, Copy)]
+#[derive(Clone, Copy, PartialEq, Eq)]
 pub enum Sort {
     Together,
     Poised,
@@ -21,17 +23,6 @@ pub struct Fact {
 }
 
 impl Sort {
-    // The sorts from 0 on.
-    pub(crate) fn code(self) -> usize
-        ensures { result ≡ code self }
-    {
-        match self {
-            Sort::Together => 0,
-            Sort::Poised => 1,
-            Sort::Apart => 2,
-        }
-    }
-
     // The sort of fact that the line of a fact of this sort shows as well.
     pub(crate) fn rest(self) -> Sort
         ensures { result ≡ rest self }
@@ -43,47 +34,24 @@ impl Sort {
         }
     }
 
-    pub(crate) fn is_apart(self) -> bool
-        ensures { result ≡ is_apart self }
+    // The fact of this sort about three states.
+    pub(crate) fn about(self, form: u8, first: u8, second: u8) -> Fact
+        ensures { result ≡ about self form first second }
     {
-        match self {
-            Sort::Together | Sort::Poised => false,
-            Sort::Apart => true,
+        Fact {
+            sort: self,
+            form,
+            first,
+            second,
         }
     }
 }
 
 impl Fact {
-    pub(crate) fn together(form: u8, first: u8, second: u8) -> Fact
-        ensures { result ≡ together form first second }
+    // The fact of this sort that a line may show.
+    pub(crate) fn told(sort: Sort, line: Line) -> Fact
+        ensures { result ≡ told sort line }
     {
-        Fact {
-            sort: Sort::Together,
-            form,
-            first,
-            second,
-        }
-    }
-
-    pub(crate) fn poised(form: u8, first: u8, second: u8) -> Fact
-        ensures { result ≡ poised form first second }
-    {
-        Fact {
-            sort: Sort::Poised,
-            form,
-            first,
-            second,
-        }
-    }
-
-    pub(crate) fn apart(form: u8, state: u8) -> Fact
-        ensures { result ≡ apart form state }
-    {
-        Fact {
-            sort: Sort::Apart,
-            form,
-            first: state,
-            second: state,
-        }
+        sort.about(line.form, line.first, line.second)
     }
 }

@@ -10,5 +10,5 @@ mod nodes;
 mod product;
 mod search;
 pub mod sheet;
-mod states;
+pub mod size;
 mod turn;

@@ -1,19 +1,18 @@
-ghost use Rattle.std.specs.Prelude.{◌≡◌, ℕ, ◌+◌, ◌<◌, ◌&&◌};
+ghost use Rattle.std.specs.Prelude.{◌≡◌, ℕ};
 ghost use Rattle.examine.specs.Facts.{Closed};
-ghost use Rattle.examine.specs.Search.{setting, state, Known, Fine, Went, Used};
+ghost use Rattle.examine.specs.Search.{setting, state, Known, Fine, Ready, Went};
 ghost use Rattle.examine.specs.Frontiers.{all_final, Begun, Followed};
 
 use crate::fact::Sort;
 use crate::line::{Line, LineStep};
-use crate::product::{Draft, Product};
-use crate::states::holds;
+use crate::product::{DoubleAt, Draft, Product};
 use crate::turn::{Side, Turn};
 use table::class::Class;
+use table::states::holds;
 
 impl<'f, 'p, C: Class> Product<'f, 'p, C> {
     // Whether all three states are final.
     fn are_final(&self, form: u8, first: u8, second: u8) -> bool
-        requires { (form < 64) × (first < 64) × (second < 64) }
         ensures { result ≡ all_final (setting C.Class.kinds self.now) form first second }
     {
         holds(self.form.finals, form)
@@ -22,12 +21,10 @@ impl<'f, 'p, C: Class> Product<'f, 'p, C> {
     }
 
     // A line for every three final states, from which the empty run is read.
-    fn begin(&self, draft: &mut Draft) -> Result<(), usize>
-        requires fine { Fine (setting C.Class.kinds self.now) (state draft.old) }
-        ensures went { Went (setting C.Class.kinds self.now) (state draft.old) (state draft.new)
-            ((f p q : ℕ) → Begun (setting C.Class.kinds self.now) (state draft.new) f p q) result }
-        ensures lines { draft.new.lines.ghost_name ≡ draft.old.lines.ghost_name }
-        ensures helper { draft.new.helper.ghost_name ≡ draft.old.helper.ghost_name }
+    fn begin(&self, draft: &mut Draft) -> Result<(), DoubleAt>
+        requires { Fine (setting C.Class.kinds self.now) (state draft.old) }
+        ensures { Went (setting C.Class.kinds self.now) (state draft.old) (state draft.new)
+            (λ G _ t. (f p q : ℕ) → Begun G t f p q) result }
     {
         let forms = self.forms as u8;
         let states = self.states as u8;
@@ -52,34 +49,27 @@ impl<'f, 'p, C: Class> Product<'f, 'p, C> {
     }
 
     // Takes line b as what empty rules lead to, and as what follows a node whose inside is a line below a.
-    fn follow(&self, draft: &mut Draft, a: usize, b: usize) -> Result<(), usize>
-        requires fine { Fine (setting C.Class.kinds self.now) (state draft.old) }
-        requires used { Used (state draft.old) b }
-        ensures went { Went (setting C.Class.kinds self.now) (state draft.old) (state draft.new)
-            (Followed (setting C.Class.kinds self.now) (state draft.old) (state draft.new) a b) result }
-        ensures lines { draft.new.lines.ghost_name ≡ draft.old.lines.ghost_name }
-        ensures helper { draft.new.helper.ghost_name ≡ draft.old.helper.ghost_name }
+    fn follow(&self, draft: &mut Draft, a: usize, b: usize) -> Result<(), DoubleAt>
+        requires { Ready (setting C.Class.kinds self.now) (state draft.old) b }
+        ensures { Went (setting C.Class.kinds self.now) (state draft.old) (state draft.new)
+            (λ G s t. Followed G s t a b) result }
     {
         self.empties(draft, b)?;
-        self.joins(
-            draft,
-            Turn {
-                side: Side::After,
-                line: b,
-                bound: a,
-            },
-        )
+        let turn = Turn {
+            side: Side::After,
+            line: b,
+            bound: a,
+        };
+        self.joins(draft, turn)
     }
 
     // Finds every fact, or a double. Lines below `a` have been taken inside a node, and those below `b` after one,
     // each with all of the others.
-    pub(crate) fn search(&self, draft: &mut Draft) -> Result<(), usize>
-        requires fine { Fine (setting C.Class.kinds self.now) (state draft.old) }
-        ensures went { Went (setting C.Class.kinds self.now) (state draft.old) (state draft.new)
-            (Closed C.Class.kinds (setting C.Class.kinds self.now).form (setting C.Class.kinds self.now).pattern
-            (Known (setting C.Class.kinds self.now) (state draft.new))) result }
-        ensures lines { draft.new.lines.ghost_name ≡ draft.old.lines.ghost_name }
-        ensures helper { draft.new.helper.ghost_name ≡ draft.old.helper.ghost_name }
+    // No `for` over the lines: each turn may add some, so that the end moves while they are taken.
+    pub(crate) fn search(&self, draft: &mut Draft) -> Result<(), DoubleAt>
+        requires { Fine (setting C.Class.kinds self.now) (state draft.old) }
+        ensures { Went (setting C.Class.kinds self.now) (state draft.old) (state draft.new)
+            (λ G _ t. Closed G.kinds G.form G.pattern (Known G t)) result }
     {
         self.begin(draft)?;
         let mut a = 1;
@@ -89,14 +79,12 @@ impl<'f, 'p, C: Class> Product<'f, 'p, C> {
                 self.follow(draft, a, b)?;
                 b += 1;
             } else {
-                self.joins(
-                    draft,
-                    Turn {
-                        side: Side::Inside,
-                        line: a,
-                        bound: b,
-                    },
-                )?;
+                let turn = Turn {
+                    side: Side::Inside,
+                    line: a,
+                    bound: b,
+                };
+                self.joins(draft, turn)?;
                 a += 1;
             }
         }

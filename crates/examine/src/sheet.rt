@@ -1,10 +1,12 @@
 ghost use Rattle.examine.specs.Sheet.{lowered, shown};
+ghost use Rattle.examine.specs.Places.{shown_places};
 
 use crate::line::Line;
 use record::limits::MAX_PLACE;
 use record::run::{Node, Runs};
 
-// A list of lines up to a top, as a run; any values whatever may stand in it. Place k is line k.
+// A lent list of lines up to a top, as a run; any values whatever may stand in it. Place k is line k; of an index list it is entry k - 1,
+// which always has a node, so the two are not one type.
 #[derive(Clone, Copy)]
 pub struct Sheet<'a> {
     pub lines: &'a [Line],
@@ -16,21 +18,17 @@ impl<'a> Runs for Sheet<'a> {
 
     ghost seen = { λ s. shown s.lines.now s.top };
 
+    ghost places = { λ s. shown_places s.lines.now s.top };
+
     fn top(&self) -> usize {
         self.top
             .min(self.lines.len().saturating_sub(1).min(MAX_PLACE))
     }
 
     fn look(&self, place: usize) -> Option<Node> {
-        if place == 0 || place > self.top() {
+        if place > self.top() {
             return None;
         }
-        let line = self.lines[place];
-        let node = line.run?;
-        if node.inside < place && node.after < place {
-            Some(node)
-        } else {
-            None
-        }
+        self.lines.get(place)?.run?.if_lower(place)
     }
 }

@@ -1,7 +1,9 @@
-ghost use Rattle.std.specs.Prelude.{◌≡◌};
-ghost use Rattle.examine.specs.Turns.{arm, pairs, state_on, inside_fact, after_fact};
+ghost use Rattle.std.specs.Prelude.{◌≡◌, ◌≢◌};
+ghost use Rattle.std.specs.Option.{MatchOption};
+ghost use Rattle.examine.specs.Turns.{pairs, state_on, side_fact, Armed, Unarmed, SkipOf};
 
 use crate::fact::{Fact, Sort};
+use table::rule::{Rule, Step};
 
 // A rule that takes a node: its number and its states.
 #[derive(Clone, Copy)]
@@ -9,6 +11,21 @@ pub struct Arm {
     pub rule: usize,
     pub from: u8,
     pub inside: u8,
+    pub to: u8,
+}
+
+// A rule that takes a node, with its class.
+#[derive(Clone, Copy)]
+pub struct ClassArm<C> {
+    pub class: C,
+    pub arm: Arm,
+}
+
+// An empty rule: its number and its states.
+#[derive(Clone, Copy)]
+pub struct Skip {
+    pub rule: usize,
+    pub from: u8,
     pub to: u8,
 }
 
@@ -36,54 +53,62 @@ pub struct Turn {
     pub bound: usize,
 }
 
-impl Arm {
-    pub(crate) fn new(rule: usize, from: u8, inside: u8, to: u8) -> Arm
-        ensures { result ≡ arm rule from inside to }
+impl Skip {
+    // Rule i, if it is an empty one.
+    pub(crate) fn of<C>(i: usize, rule: &Rule<C>) -> Option<Skip>
+        ensures { MatchOption result (rule.now.step ≢ Step.Empty) (λ s. SkipOf i rule.now s) }
     {
-        Arm {
-            rule,
-            from,
-            inside,
-            to,
+        match rule.step {
+            Step::Empty => Some(Skip {
+                rule: i,
+                from: rule.from,
+                to: rule.to,
+            }),
+            Step::Node { .. } => None,
+        }
+    }
+}
+
+impl Arm {
+    // The state of the rule on a side of the node.
+    fn on(self, side: Side) -> u8
+        ensures { result ≡ state_on side self.inside self.to }
+    {
+        match side {
+            Side::Inside => self.inside,
+            Side::After => self.to,
         }
     }
 }
 
 impl Trio {
-    // A fact about the inside of the node.
-    pub(crate) fn inside(self, sort: Sort) -> Fact
-        ensures { result ≡ inside_fact sort self }
+    // A fact about the run on a side of the node.
+    pub(crate) fn fact(self, side: Side, sort: Sort) -> Fact
+        ensures { result ≡ side_fact side sort self }
     {
-        Fact {
-            sort,
-            form: self.form.inside,
-            first: self.first.inside,
-            second: self.second.inside,
-        }
-    }
-
-    // A fact about what follows the node.
-    pub(crate) fn after(self, sort: Sort) -> Fact
-        ensures { result ≡ after_fact sort self }
-    {
-        Fact {
-            sort,
-            form: self.form.to,
-            first: self.first.to,
-            second: self.second.to,
-        }
+        sort.about(
+            self.form.on(side),
+            self.first.on(side),
+            self.second.on(side),
+        )
     }
 }
 
 impl Side {
-    // The state of a node rule on this side.
-    pub(crate) fn state(self, inside: u8, to: u8) -> u8
-        ensures { result ≡ state_on self inside to }
+    // Rule i, if it takes a node and has the state on this side.
+    pub(crate) fn arm<C: Copy>(self, i: usize, rule: &Rule<C>, state: u8) -> Option<ClassArm<C>>
+        ensures { MatchOption result (Unarmed self rule.now state) (λ x. Armed self i rule.now state x.class x.arm) }
     {
-        match self {
-            Side::Inside => inside,
-            Side::After => to,
-        }
+        let Step::Node { class, inside, .. } = rule.step else {
+            return None;
+        };
+        let arm = Arm {
+            rule: i,
+            from: rule.from,
+            inside,
+            to: rule.to,
+        };
+        (arm.on(self) == state).then_some(ClassArm { class, arm })
     }
 }
 
@@ -93,8 +118,8 @@ impl Turn {
         ensures { result ≡ pairs self inside after }
     {
         match self.side {
-            Side::Inside => inside == self.line && 0 < after && after < self.bound,
-            Side::After => after == self.line && 0 < inside && inside < self.bound,
+            Side::Inside => inside == self.line && after < self.bound,
+            Side::After => after == self.line && inside < self.bound,
         }
     }
 }

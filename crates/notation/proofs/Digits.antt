@@ -4,8 +4,6 @@ use Rattle.std.specs.Str.Parse.{AllDigits, digits_value}
 use Rattle.std.specs.Char.{digit_value}
 use Rattle.std.proofs.lemmas.Int.Digits.{digits_value_more, digits_more}
 use Rattle.std.proofs.lemmas.Bool.Decides.{nat_tests}
-use Rattle.std.proofs.lemmas.List.{take_all}
-use Rattle.notation.specs.Number.{Writes}
 
 value_of_digit : (d : ℕ) → 48 ≤ d → d ≤ 57 → digit_value d ≡ d - 48
 value_of_digit d h g = grind (arith, nat_tests)
@@ -19,8 +17,3 @@ pub digits_step : (word : List ℕ) (i d : ℕ) → i < length word → d ≡ ge
 digits_step word i d l e h g p =
     let v : digit_value d ≡ d - 48 = value_of_digit d h g in
     digits_more 10 word i l p (subst (λ (k : ℕ). digit_value k < 10) e (omega arith))
-
-pub writes_all : (word : List ℕ) (i n : ℕ) → length word ≤ i → 0 < length word → n ≡ digits_value 10 (take i word) → AllDigits 10 (take i word) → Writes word n
-writes_all word i n l h p q =
-    let a : take i word ≡ word = take_all i word l in
-    record { digits = (h, subst (λ (w : List ℕ). AllDigits 10 w) a q); is = p ∙ ap (digits_value 10) a }

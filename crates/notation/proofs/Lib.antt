@@ -3,3 +3,5 @@ mod Written
 mod Named
 mod Digits
 mod Spelling
+mod Ends
+mod Sets

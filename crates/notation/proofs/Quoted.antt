@@ -4,7 +4,7 @@ use Rattle.std.proofs.lemmas.List.{drop-drop, drop_more}
 use Rattle.std.specs.List.{between}
 use Rattle.notation.specs.declared.quote.Piece.{Piece}
 use Rattle.notation.specs.Quoting.{FirstOf}
-use Rattle.notation.specs.Quote.{Hex, Escape, Byte, plain, letter, hex, Spells, none, more, Quoted, quoted}
+use Rattle.notation.specs.Quote.{HexByte, Escape, Byte, plain, letter, hex, Spells, none, more, Quoted, quoted}
 
 pub spelt_plain : (xs : List ℕ) → 1 ≤ length xs → (get_or xs 0 0 ≡ 34 → ⊥) → (get_or xs 0 0 ≡ 92 → ⊥) → Byte (take 1 xs) (get_or xs 0 0)
 spelt_plain [] h p q = absurd (omega arith)
@@ -15,12 +15,15 @@ spelt_letter [] b h e p = absurd (omega arith)
 spelt_letter (x ∷ []) b h e p = absurd (omega arith)
 spelt_letter (x ∷ y ∷ xs) b h e p = subst (λ (w : ℕ). Byte (w ∷ y ∷ []) b) (sym e) (letter p)
 
-pub spelt_hex : (xs : List ℕ) (a b : ℕ) → 4 ≤ length xs → get_or xs 0 0 ≡ 92 → get_or xs 1 0 ≡ 120 → Hex (get_or xs 2 0) a → Hex (get_or xs 3 0) b → Byte (take 4 xs) (16 * a + b)
-spelt_hex [] a b h e f p q = absurd (omega arith)
-spelt_hex (x ∷ []) a b h e f p q = absurd (omega arith)
-spelt_hex (x ∷ y ∷ []) a b h e f p q = absurd (omega arith)
-spelt_hex (x ∷ y ∷ z ∷ []) a b h e f p q = absurd (omega arith)
-spelt_hex (x ∷ y ∷ z ∷ w ∷ xs) a b h e f p q = subst (λ (u : ℕ). Byte (u ∷ y ∷ z ∷ w ∷ []) (16 * a + b)) (sym e) (subst (λ (u : ℕ). Byte (92 ∷ u ∷ z ∷ w ∷ []) (16 * a + b)) (sym f) (hex p q))
+pub spelt_by_hex : (h l b : ℕ) → HexByte h l b → Byte (92 ∷ 120 ∷ h ∷ l ∷ []) b
+spelt_by_hex h l b p = let e : 16 * (b / 16) + b % 16 ≡ b = omega arith in subst (λ (w : ℕ). Byte (92 ∷ 120 ∷ h ∷ l ∷ []) w) e (hex p.0 p.1)
+
+pub spelt_hex : (xs : List ℕ) (b : ℕ) → 4 ≤ length xs → get_or xs 0 0 ≡ 92 → get_or xs 1 0 ≡ 120 → HexByte (get_or xs 2 0) (get_or xs 3 0) b → Byte (take 4 xs) b
+spelt_hex [] b h e f p = absurd (omega arith)
+spelt_hex (x ∷ []) b h e f p = absurd (omega arith)
+spelt_hex (x ∷ y ∷ []) b h e f p = absurd (omega arith)
+spelt_hex (x ∷ y ∷ z ∷ []) b h e f p = absurd (omega arith)
+spelt_hex (x ∷ y ∷ z ∷ w ∷ xs) b h e f p = subst (λ (u : ℕ). Byte (u ∷ y ∷ z ∷ w ∷ []) b) (sym e) (subst (λ (u : ℕ). Byte (92 ∷ u ∷ z ∷ w ∷ []) b) (sym f) (spelt_by_hex z w b p))
 
 -- one more byte at the end
 pub spells_push : {s out : List ℕ} (p : List ℕ) (b : ℕ) → Spells s out → Byte p b → Spells (s ++ p) (out ++ b ∷ [])
@@ -46,9 +49,6 @@ pub spells_nothing : (line : List ℕ) (from : ℕ) (out : List ℕ) → out ≡
 spells_nothing line from out e =
     let z : from - from ≡ 0 = omega arith in
     subst (λ (w : List ℕ). Spells (between from from line) w) (sym e) (subst (λ (k : ℕ). Spells (take k (drop from line)) []) (sym z) none)
-
-pub spelt_by_hex : (h l b : ℕ) → Hex h (b / 16) → Hex l (b % 16) → Byte (92 ∷ 120 ∷ h ∷ l ∷ []) b
-spelt_by_hex h l b p q = let e : 16 * (b / 16) + b % 16 ≡ b = omega arith in subst (λ (w : ℕ). Byte (92 ∷ 120 ∷ h ∷ l ∷ []) w) e (hex p q)
 
 between_first : (xs : List ℕ) (a b : ℕ) → a < b → a < length xs → between a b xs ≡ get_or xs a 0 ∷ between (a + 1) b xs
 between_first xs a b h l =

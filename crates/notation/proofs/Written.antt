@@ -18,13 +18,6 @@ adds_more {a} R x y f =
       all = y.all ∙ (ap (λ (w : List ℕ). w ++ y.added) x.all ∙ append_assoc (vec_items a) x.added y.added);
     }
 
-pub adds_weaker : {a b : Vec ℕ Global} {P : List ℕ → Type 0} (Q : List ℕ → Type 0) → ((p : List ℕ) → P p → Q p) → Adds a b P → Adds a b Q
-adds_weaker Q f x = record { added = x.added; says = f x.added x.says; all = x.all }
-
 -- bytes that a call has put at the end
 pub adds_these : (a b : Vec ℕ Global) (added : List ℕ) → vec_items b ≡ vec_items a ++ added → Adds a b (λ p. p ≡ added)
 adds_these a b added e = record { added = added; says = refl; all = e }
-
-pub made_adds_weaker : {T E : Type 0} (a b : Vec ℕ Global) (P : List ℕ → Type 0) (r : Result T E) (Q : List ℕ → Type 0) → ((p : List ℕ) → P p → Q p) → IfOk r (λ _. Adds a b P) → IfOk r (λ _. Adds a b Q)
-made_adds_weaker a b P (Ok x) Q f h = adds_weaker Q f h
-made_adds_weaker a b P (Err y) Q f h = tt

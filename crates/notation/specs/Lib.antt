@@ -7,3 +7,4 @@ pub mod Names
 pub mod Spelt
 pub mod Rule
 pub mod Text
+pub mod Complaints

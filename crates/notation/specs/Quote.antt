@@ -1,9 +1,13 @@
 -- Texts in quotes: which bytes they spell.
-use Rattle.std.specs.Prelude.{◌≡◌, ℕ, ◌+◌, ◌*◌, ◌<◌, ◌≤◌, ◌⊎◌, List, [], ◌∷◌, ◌++◌, ◌≢◌}
+use Rattle.std.specs.Prelude.{◌≡◌, ℕ, ◌+◌, ◌*◌, ◌/◌, ◌%◌, ◌<◌, ◌≤◌, ◌⊎◌, List, [], ◌∷◌, ◌++◌, ◌≢◌}
 
 -- a hexadecimal digit, in small or large letters, and its value
 abbrev pub Hex : ℕ → ℕ → Type 0
 Hex d v = ((v < 10) × (d ≡ 48 + v)) ⊎ ((10 ≤ v) × (v < 16) × ((d ≡ 87 + v) ⊎ (d ≡ 55 + v)))
+
+-- two hexadecimal digits, and the byte that they write
+abbrev pub HexByte : ℕ → ℕ → ℕ → Type 0
+HexByte h l b = Hex h (b / 16) × Hex l (b % 16)
 
 -- a letter after a backslash, and the byte that it stands for
 abbrev pub Escape : ℕ → ℕ → Type 0

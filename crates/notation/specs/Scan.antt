@@ -1,14 +1,16 @@
 -- Lines, and how far a line has been read.
-use Rattle.std.specs.Prelude.{◌≡◌, ℕ, ◌-◌, ◌<◌, ◌≤◌, List, length, ◌≢◌, slice_index}
+use Rattle.std.specs.Prelude.{◌≡◌, ℕ, Bool, true, false, ◌-◌, ◌<◌, ◌≤◌, List, length, ◌≢◌, slice_index}
 use Rattle.std.specs.List.{between}
 use Rattle.notation.specs.Quote.{Quoted}
 use Rattle.notation.specs.declared.scan.Cursor.{Cursor}
 use Rattle.notation.specs.declared.scan.Source.{Source}
 
--- reading went on from one place to another
-pub record Onward (bytes : List ℕ) (from to : ℕ) : Type 0 where
+-- what begins at a place goes on to the first byte that stops it, or to the end
+pub record EndsBy (stops : ℕ → Bool → Type 0) (bytes : List ℕ) (from to : ℕ) : Type 0 where
   pub up : from ≤ to
   pub within : to ≤ length bytes
+  pub inner : (k : ℕ) → from ≤ k → k < to → stops (slice_index bytes k) false
+  pub ended : to < length bytes → stops (slice_index bytes to) true
 
 -- the line that begins at a place ends at the first newline there, or where the file ends
 pub record LineEnd (text : List ℕ) (from to : ℕ) : Type 0 where

@@ -1,5 +1,5 @@
 -- Bytes that are a run of nodes.
-use Rattle.std.specs.Prelude.{◌≡◌, ℕ, ◌+◌, ◌^◌, ◌<◌, List, ◌++◌, length, vec_items, Vec}
+use Rattle.std.specs.Prelude.{◌≡◌, ℕ, ◌+◌, ◌^◌, ◌<◌, ◌≤◌, List, ◌++◌, length, vec_items, Vec}
 use Rattle.record.specs.Nodes.{Nodes, bytes_of, Fit}
 use Rattle.record.specs.Numbers.{Bytes, le}
 use Rattle.std.specs.declared.alloc.Global.{Global}
@@ -25,3 +25,7 @@ pub record Put (before after : Vec ℕ Global) (kind : ℕ) (text inside : List 
 -- the most bytes that the notation gives one record
 abbrev pub max_record : ℕ
 max_record = 1048576
+
+-- the bytes of a run of nodes, no more than one record may have
+abbrev pub IsRecord : List ℕ → Type 0
+IsRecord bytes = ∥ Spelt bytes ∥₁ × (length bytes ≤ max_record)

@@ -1,62 +1,26 @@
 // Blocks: what stands between a line that begins a form, a pattern or a record and its `end`.
+ghost use Rattle.std.specs.Prelude.{IfOk, Ok};
+ghost use Rattle.std.specs.declared.ops.ControlFlow.TheVariants.{Break};
+ghost use Rattle.std.specs.ControlFlow.{ForBreak};
 ghost use Rattle.notation.specs.Scan.{ReadOn};
+ghost use Rattle.notation.specs.Spelt.{IsRecord};
 
 use crate::complaint::{Complaint, Wanted, What};
 use crate::node::Builder;
-use crate::quote::hex_value;
-use crate::rule::{empty_rule, kind, node_rule, states};
+use crate::quote::hex_byte;
+use crate::rule::{empty_rule, states};
 use crate::scan::{Cursor, Source};
 use crate::value::{TableText, Vocabulary};
 use std::alloc::Global;
+use std::ops::ControlFlow;
 
-// One line of a table; whether it ends the table.
-fn table_line(
-    cursor: &mut Cursor,
-    vocabulary: &Vocabulary,
-    table: &mut TableText,
-) -> Result<bool, What> {
-    let word = cursor.token();
-    if word == b"starts".as_slice() {
-        table.starts |= states(cursor)?;
-    } else if word == b"finals".as_slice() {
-        table.finals |= states(cursor)?;
-    } else if word == b"rule".as_slice() {
-        table.rules.push(node_rule(cursor, vocabulary)?)?;
-    } else if word == b"empty".as_slice() {
-        table.rules.push(empty_rule(cursor)?)?;
-    } else if word != b"end".as_slice() {
-        return Err(What::Wanted(Wanted::TableStatement));
-    }
-    cursor.end()?;
-    Ok(word == b"end".as_slice())
-}
-
-// The lines of a table up to its `end`; `line` is where it began.
-pub(crate) fn table(
-    heap: Global,
-    source: &mut Source,
-    vocabulary: &Vocabulary,
-    line: usize,
-) -> Result<TableText, Complaint>
-    ensures { ReadOn source.old source.new }
-{
-    let mut table = TableText {
-        starts: 0,
-        finals: 0,
-        rules: Vec::new(heap),
-        line,
-    };
-    while let Some(mut cursor) = source.next() {
-        let ended = table_line(&mut cursor, vocabulary, &mut table);
-        if cursor.complain(ended)? {
-            return Ok(table);
-        }
-    }
-    Err(Complaint {
-        line,
-        column: 1,
-        what: What::BlockUnclosed,
-    })
+// A file that is being read, the names that its words may use, and the heap for what it says.
+// That a method only reads on (`ReadOn`) is a clause of each: it compares the source at two moments, and a field holds at one.
+#[derive(Drop)]
+pub struct Reader<'a> {
+    pub(crate) heap: Global,
+    pub(crate) source: Source<'a>,
+    pub(crate) vocabulary: &'a Vocabulary,
 }
 
 // A line of a record that is written as nested nodes.
@@ -68,109 +32,156 @@ enum NodeLine {
     End,
 }
 
-fn node_line(heap: Global, cursor: &mut Cursor, vocabulary: &Vocabulary) -> Result<NodeLine, What> {
-    if cursor.take(b'}') {
+impl Vocabulary {
+    // One line of a table: what the table says so far, or all of it at its `end`.
+    fn table_line(
+        &self,
+        cursor: &mut Cursor,
+        mut table: TableText,
+    ) -> Result<ControlFlow<TableText, TableText>, What> {
+        match cursor.token() {
+            b"starts" => table.starts |= states(cursor)?,
+            b"finals" => table.finals |= states(cursor)?,
+            b"rule" => table.rules.push(self.node_rule(cursor)?)?,
+            b"empty" => table.rules.push(empty_rule(cursor)?)?,
+            b"end" => {
+                cursor.end()?;
+                return Ok(ControlFlow::Break(table));
+            }
+            _ => return Err(What::Wanted(Wanted::TableStatement)),
+        }
         cursor.end()?;
-        return Ok(NodeLine::Close);
+        Ok(ControlFlow::Continue(table))
     }
-    let mut ahead = *cursor;
-    if ahead.token() == b"end".as_slice() {
-        *cursor = ahead;
+
+    fn node_line(&self, heap: Global, cursor: &mut Cursor) -> Result<NodeLine, What> {
+        if cursor.take(b'}') {
+            cursor.end()?;
+            return Ok(NodeLine::Close);
+        }
+        let mut ahead = *cursor;
+        if ahead.token() == b"end".as_slice() {
+            *cursor = ahead;
+            cursor.end()?;
+            return Ok(NodeLine::End);
+        }
+        let kind = self.kind(cursor)?;
+        let text = match cursor.peek() {
+            Some(b'"') => cursor.text(heap)?,
+            _ => Vec::new(heap),
+        };
+        let begins = cursor.take(b'{');
         cursor.end()?;
-        return Ok(NodeLine::End);
-    }
-    let kind = kind(cursor, vocabulary, 65_535)? as u16;
-    let text = match cursor.peek() {
-        Some(b'"') => cursor.text(heap)?,
-        _ => Vec::new(heap),
-    };
-    let begins = cursor.take(b'{');
-    cursor.end()?;
-    if begins {
-        Ok(NodeLine::Begin { kind, text })
-    } else {
-        Ok(NodeLine::Leaf { kind, text })
+        if begins {
+            Ok(NodeLine::Begin { kind, text })
+        } else {
+            Ok(NodeLine::Leaf { kind, text })
+        }
     }
 }
 
-// The bytes of the nodes up to `end`; `line` is where the record began.
-pub(crate) fn nodes(
-    heap: Global,
-    source: &mut Source,
-    vocabulary: &Vocabulary,
-    line: usize,
-) -> Result<Vec<u8>, Complaint>
-    ensures { ReadOn source.old source.new }
+// The nodes with one more line, or their bytes at `end`.
+fn with_line(builder: Builder, line: NodeLine) -> Result<ControlFlow<Vec<u8>, Builder>, What>
+    ensures { IfOk result (λ next. ForBreak next (λ v. IsRecord v.items)) }
 {
-    let mut builder = Builder::new(heap);
-    while let Some(mut cursor) = source.next() {
-        let read = node_line(heap, &mut cursor, vocabulary);
-        let next = match cursor.complain(read)? {
-            NodeLine::Leaf { kind, text } => builder.leaf(kind, &text),
-            NodeLine::Begin { kind, text } => builder.begin(heap, kind, text),
-            NodeLine::Close => builder.close(),
-            NodeLine::End => return cursor.complain(builder.finish()),
-        };
-        builder = cursor.complain(next)?;
+    match line {
+        NodeLine::Leaf { kind, text } => Ok(ControlFlow::Continue(builder.leaf(kind, &text)?)),
+        NodeLine::Begin { kind, text } => Ok(ControlFlow::Continue(builder.begin(kind, text)?)),
+        NodeLine::Close => Ok(ControlFlow::Continue(builder.close()?)),
+        NodeLine::End => Ok(ControlFlow::Break(builder.finish()?)),
     }
-    Err(Complaint {
-        line,
-        column: 1,
-        what: What::BlockUnclosed,
-    })
 }
 
 // The bytes that a word of hexadecimal digits writes, two digits a byte.
 fn push_hex(word: &[u8], bytes: &mut Vec<u8>) -> Result<(), What> {
-    let mut first: Option<u8> = None;
-    for digit in word {
-        let Some(value) = hex_value(*digit) else {
+    for digits in word.chunks(2) {
+        let [high, low] = digits else {
             return Err(What::BadHex);
         };
-        match first {
-            None => first = Some(value),
-            Some(high) => {
-                bytes.push(high << 4 | value)?;
-                first = None;
-            }
-        }
+        let Some(byte) = hex_byte(*high, *low) else {
+            return Err(What::BadHex);
+        };
+        bytes.push(byte)?;
     }
-    match first {
-        None => Ok(()),
-        Some(_) => Err(What::BadHex),
-    }
+    Ok(())
 }
 
-// One line of bytes; whether it ends the record.
-fn hex_line(cursor: &mut Cursor, bytes: &mut Vec<u8>) -> Result<bool, What> {
+// One line of bytes: the bytes so far, or all of them at `end`.
+fn hex_line(
+    cursor: &mut Cursor,
+    mut bytes: Vec<u8>,
+) -> Result<ControlFlow<Vec<u8>, Vec<u8>>, What> {
     while cursor.peek().is_some() {
         let word = cursor.token();
         if word == b"end".as_slice() {
             cursor.end()?;
-            return Ok(true);
+            return Ok(ControlFlow::Break(bytes));
         }
         if word.is_empty() {
             return Err(What::Wanted(Wanted::HexOrEnd));
         }
-        push_hex(word, bytes)?;
+        push_hex(word, &mut bytes)?;
     }
-    Ok(false)
+    Ok(ControlFlow::Continue(bytes))
 }
 
-// The bytes in hexadecimal up to `end`; `line` is where the record began.
-pub(crate) fn hex(heap: Global, source: &mut Source, line: usize) -> Result<Vec<u8>, Complaint>
-    ensures { ReadOn source.old source.new }
-{
-    let mut bytes = Vec::new(heap);
-    while let Some(mut cursor) = source.next() {
-        let ended = hex_line(&mut cursor, &mut bytes);
-        if cursor.complain(ended)? {
-            return Ok(bytes);
+impl<'a> Reader<'a> {
+    // What the lines of a block say, each read by `step` after what was read before it; `line` is where the block began.
+    fn block<B: Drop, T: Drop, F: Fn(B, &mut Cursor<'a>) -> Result<ControlFlow<T, B>, What>>(
+        &mut self,
+        line: usize,
+        none: B,
+        step: F,
+    ) -> Result<T, Complaint>
+        requires { F.IsAlwaysCallable step }
+        ensures source { ReadOn self.old.source self.new.source }
+        ensures ended { IfOk result (λ all. (b : B) × (c : _) × (d : _) × F.post step b c (Ok (Break all)) d) }
+    {
+        let mut read = none;
+        while let Some(mut cursor) = self.source.next() {
+            let next = step(read, &mut cursor);
+            match cursor.complain(next)? {
+                ControlFlow::Break(all) => return Ok(all),
+                ControlFlow::Continue(more) => read = more,
+            }
         }
+        Err(Complaint::of_block(line, What::BlockUnclosed))
     }
-    Err(Complaint {
-        line,
-        column: 1,
-        what: What::BlockUnclosed,
-    })
+
+    // The lines of a table up to its `end`.
+    pub(crate) fn table(&mut self, line: usize) -> Result<TableText, Complaint>
+        ensures { ReadOn self.old.source self.new.source }
+    {
+        let vocabulary = self.vocabulary;
+        let none = TableText {
+            starts: 0,
+            finals: 0,
+            rules: Vec::new(self.heap),
+            line,
+        };
+        self.block(line, none, |table, cursor| {
+            vocabulary.table_line(cursor, table)
+        })
+    }
+
+    // The bytes of the nodes up to `end`.
+    pub(crate) fn nodes(&mut self, line: usize) -> Result<Vec<u8>, Complaint>
+        ensures source { ReadOn self.old.source self.new.source }
+        ensures bytes { IfOk result (λ v. IsRecord v.items) }
+    {
+        let heap = self.heap;
+        let vocabulary = self.vocabulary;
+        self.block(line, Builder::new(heap), |nodes, cursor| {
+            with_line(nodes, vocabulary.node_line(heap, cursor)?)
+        })
+    }
+
+    // The bytes in hexadecimal up to `end`.
+    pub(crate) fn hex(&mut self, line: usize) -> Result<Vec<u8>, Complaint>
+        ensures { ReadOn self.old.source self.new.source }
+    {
+        self.block(line, Vec::new(self.heap), |bytes, cursor| {
+            hex_line(cursor, bytes)
+        })
+    }
 }

@@ -1,6 +1,7 @@
 // What can be wrong with a file of the notation, and where.
 ghost use Rattle.std.specs.Prelude.{◌≡◌};
 ghost use Rattle.notation.specs.declared.complaint.What.TheVariants.{Memory};
+ghost use Rattle.notation.specs.Complaints.{about_file, about_block};
 
 use std::alloc::{AllocError, AllocFailed};
 
@@ -81,30 +82,54 @@ impl<T: Drop> From<AllocFailed<T>> for What {
     }
 }
 
-// A complaint: what is wrong, at which line and column, counted from 1; line 0 stands for the whole file.
+// A line and a column of a file, both counted from 1.
 #[derive(Clone, Copy, PartialEq, Eq, Debug)]
-pub struct Complaint {
+pub struct Position {
     pub line: usize,
     pub column: usize,
+}
+
+// A complaint: what is wrong, and where; with no position it is about the whole file.
+#[derive(Clone, Copy, PartialEq, Eq, Debug)]
+pub struct Complaint {
+    pub position: Option<Position>,
     pub what: What,
 }
 
-impl From<AllocError> for Complaint {
-    fn from(_e: AllocError) -> Complaint {
+impl Complaint {
+    // About the whole file.
+    pub(crate) fn of_file(what: What) -> Complaint
+        ensures { result ≡ about_file what }
+    {
         Complaint {
-            line: 0,
-            column: 0,
-            what: What::Memory,
+            position: None,
+            what,
+        }
+    }
+
+    // About a block that begins at a line.
+    pub(crate) fn of_block(line: usize, what: What) -> Complaint
+        ensures { result ≡ about_block line what }
+    {
+        Complaint {
+            position: Some(Position { line, column: 1 }),
+            what,
         }
     }
 }
 
+impl From<AllocError> for Complaint {
+    ghost from_gives = { λ _ r. r ≡ about_file Memory };
+
+    fn from(e: AllocError) -> Complaint {
+        Complaint::of_file(What::from(e))
+    }
+}
+
 impl<T: Drop> From<AllocFailed<T>> for Complaint {
-    fn from(_e: AllocFailed<T>) -> Complaint {
-        Complaint {
-            line: 0,
-            column: 0,
-            what: What::Memory,
-        }
+    ghost from_gives = { λ _ r. r ≡ about_file Memory };
+
+    fn from(e: AllocFailed<T>) -> Complaint {
+        Complaint::of_file(What::from(e))
     }
 }

@@ -1,6 +1,6 @@
 // Nested nodes, one after another, into the bytes of a record.
-ghost use Rattle.std.specs.Prelude.{◌≤◌, IfOk, vec_len, OnOk};
-ghost use Rattle.notation.specs.Spelt.{Spelt, Put, max_record};
+ghost use Rattle.std.specs.Prelude.{IfOk, OnOk};
+ghost use Rattle.notation.specs.Spelt.{Spelt, Put, IsRecord};
 
 use crate::complaint::What;
 use std::alloc::Global;
@@ -64,8 +64,9 @@ impl Builder {
     }
 
     // Begins a node; what comes next goes inside it.
-    pub(crate) fn begin(self, heap: Global, kind: u16, text: Vec<u8>) -> Result<Builder, What> {
+    pub(crate) fn begin(self, kind: u16, text: Vec<u8>) -> Result<Builder, What> {
         let Builder { mut open, run } = self;
+        let heap = *run.allocator();
         if open.len() >= MAX_DEPTH {
             return Err(What::TooDeep);
         }
@@ -97,7 +98,7 @@ impl Builder {
 
     // The bytes of the nodes, if each is ended and they are few enough.
     pub(crate) fn finish(self) -> Result<Vec<u8>, What>
-        ensures { IfOk result (λ v. ∥ Spelt v.items ∥₁ × (vec_len v ≤ max_record)) }
+        ensures { IfOk result (λ v. IsRecord v.items) }
     {
         let Builder { open, run } = self;
         if !open.is_empty() {

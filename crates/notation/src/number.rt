@@ -12,9 +12,10 @@ pub(crate) fn decimal(word: &[u8], most: u32) -> Result<u32, What>
     if word.is_empty() {
         return Err(What::Wanted(Wanted::Number));
     }
+    // not by `parse`, which takes a plus sign before the digits
     let mut number: u64 = 0;
     for digit in word {
-        if *digit < b'0' || *digit > b'9' {
+        if !digit.is_ascii_digit() {
             return Err(What::Wanted(Wanted::Number));
         }
         number = number * 10 + (*digit - b'0') as u64;

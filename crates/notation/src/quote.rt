@@ -1,12 +1,13 @@
 // Texts in quotes, and hexadecimal digits.
 ghost use Rattle.std.specs.Prelude.{ℕ, ◌+◌, ◌<◌, ◌≤◌, length, IfSome, IfOk, MatchOption, OnOk};
-ghost use Rattle.notation.specs.Quote.{Hex, Escape, Byte, Quoted};
+ghost use Rattle.notation.specs.Quote.{Hex, HexByte, Escape, Byte, Quoted};
 ghost use Rattle.notation.specs.Quoting.{FirstOf, ReadAs};
 ghost use Rattle.notation.specs.Writes.{Adds};
 
 use std::alloc::{AllocError, Global};
 
 // The value of a hexadecimal digit.
+// By arms: `to_digit` is of a `char` and gives a `u32`, so it takes two conversions more.
 pub fn hex_value(digit: u8) -> Option<u8>
     ensures { MatchOption result ((v : ℕ) → Hex digit v → ⊥) (λ v. Hex digit v) }
 {
@@ -18,7 +19,17 @@ pub fn hex_value(digit: u8) -> Option<u8>
     }
 }
 
+// The byte that two hexadecimal digits write.
+pub(crate) fn hex_byte(high: u8, low: u8) -> Option<u8>
+    ensures { MatchOption result ((b : ℕ) → HexByte high low b → ⊥) (λ b. HexByte high low b) }
+{
+    let high = hex_value(high)?;
+    let low = hex_value(low)?;
+    Some(16 * high + low)
+}
+
 // The hexadecimal digit of a value below 16.
+// Not by `char::from_digit`: it is of a `u32` and gives a `char`, if any, so it takes two conversions and an `unwrap` more.
 fn hex_digit(value: u8) -> u8
     requires { value < 16 }
     ensures { Hex result value }
@@ -56,12 +67,8 @@ pub(crate) fn first(rest: &[u8]) -> Option<Piece>
 {
     match rest {
         [b'\\', b'x', high, low, ..] => {
-            let high = hex_value(*high)?;
-            let low = hex_value(*low)?;
-            Some(Piece {
-                byte: 16 * high + low,
-                size: 4,
-            })
+            let byte = hex_byte(*high, *low)?;
+            Some(Piece { byte, size: 4 })
         }
         [b'\\', letter, ..] => {
             let byte = escaped(*letter)?;
@@ -89,6 +96,7 @@ pub(crate) fn unquote(heap: Global, line: &[u8], from: usize) -> Result<Unquoted
 {
     let mut bytes = Vec::new(heap);
     let mut end = from;
+    // a piece is one to four bytes long; a rest of the line would not tell where the text ends
     while let Some(piece) = first(&line[end..]) {
         bytes.push(piece.byte)?;
         end += piece.size;
@@ -97,6 +105,7 @@ pub(crate) fn unquote(heap: Global, line: &[u8], from: usize) -> Result<Unquoted
 }
 
 // Writes one byte of a text: `plain` says whether bytes above 127 are characters.
+// It is a bool: an enum of the two would be asked for in one arm.
 fn push_byte(out: &mut Vec<u8>, byte: u8, plain: bool) -> Result<(), AllocError>
     ensures { OnOk result (Adds out.old out.new (λ p. Byte p byte)) }
 {
@@ -113,6 +122,7 @@ fn push_byte(out: &mut Vec<u8>, byte: u8, plain: bool) -> Result<(), AllocError>
 }
 
 // Writes a text in quotes, as it is where it is UTF-8, with escapes for quotes, backslashes and control characters.
+// Not by `Display`: it writes into bytes that a caller goes on with, and the contract says that the bytes added (`Adds`) spell the text, not how.
 pub fn push_quoted(out: &mut Vec<u8>, bytes: &[u8]) -> Result<(), AllocError>
     ensures { OnOk result (Adds out.old out.new (λ p. Quoted p bytes.now)) }
 {

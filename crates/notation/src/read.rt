@@ -1,11 +1,15 @@
 // Whole files: a box, one pattern, or one record.
+ghost use Rattle.std.specs.Prelude.{◌↔◌, IsOk};
 ghost use Rattle.notation.specs.Scan.{ReadOn};
+ghost use Rattle.notation.specs.Text.{IsText};
 
-use crate::block::{hex, nodes, table};
+use crate::block::Reader;
 use crate::complaint::{Complaint, Wanted, What};
 use crate::scan::{Cursor, Source};
 use crate::text::check_text;
-use crate::value::{BoxText, Entry, Layout, Name, PatternText, RecordText, Vocabulary, Writing};
+use crate::value::{
+    BoxText, Entry, LaidText, Layout, Name, PatternText, RecordText, Vocabulary, Writing,
+};
 use std::alloc::Global;
 
 // The most names of kinds, and of marks.
@@ -16,94 +20,124 @@ fn name(heap: Global, cursor: &mut Cursor) -> Result<String, What> {
     let word = cursor.token();
     match word {
         [] => Err(What::Wanted(Wanted::Name)),
-        [b'0'..=b'9' | b'_' | b'-', ..] | b"end" => Err(What::BadName),
-        _ => match std::str::from_utf8(word) {
-            Ok(word) => Ok(String::from_str(heap, word)?),
-            Err(_) => Err(What::BadName),
-        },
+        [first, ..] if first.is_ascii_alphabetic() && word != b"end".as_slice() => {
+            let word = std::str::from_utf8(word).map_err(|_| What::BadName)?;
+            Ok(String::from_str(heap, word)?)
+        }
+        _ => Err(What::BadName),
     }
 }
 
-// The rest of a line that names a number: the number and its name, neither of them named before.
-fn push_name(
-    heap: Global,
-    cursor: &mut Cursor,
-    names: &mut Vec<Name>,
-    most: u16,
-) -> Result<(), What> {
-    let number = cursor.number(most as u32)? as u16;
-    let word = name(heap, cursor)?;
-    cursor.end()?;
-    if names.len() >= MAX_NAMES {
-        return Err(What::TooManyNames);
-    }
-    for old in names.iter() {
-        if old.number == number {
-            return Err(What::NumberTwice);
-        }
-        if old.word == word {
-            return Err(What::NameTwice);
-        }
-    }
-    names.push(Name { number, word })?;
-    Ok(())
-}
-
-// The words of a line that begins a file: `box`, or `classes`, and what they say.
-fn box_line(heap: Global, cursor: &mut Cursor) -> Result<String, What> {
-    if cursor.token() != b"box".as_slice() {
-        return Err(What::Wanted(Wanted::BoxLine));
-    }
+// The name on the rest of a line.
+fn title(heap: Global, cursor: &mut Cursor) -> Result<String, What> {
     let name = name(heap, cursor)?;
     cursor.end()?;
     Ok(name)
 }
 
+// The rest of a line that names a number: the number and its name, neither of them named before.
+fn push_name(cursor: &mut Cursor, names: &mut Vec<Name>, most: u16) -> Result<(), What> {
+    let number = cursor.number16(most)?;
+    let word = title(*names.allocator(), cursor)?;
+    if names.len() >= MAX_NAMES {
+        return Err(What::TooManyNames);
+    }
+    let taken = names
+        .iter()
+        .find(|old| old.number == number || old.word == word);
+    match taken {
+        Some(old) if old.number == number => Err(What::NumberTwice),
+        Some(_) => Err(What::NameTwice),
+        None => {
+            names.push(Name { number, word })?;
+            Ok(())
+        }
+    }
+}
+
+// The name on the first line of a box file.
+fn box_line(heap: Global, cursor: &mut Cursor) -> Result<String, What> {
+    match cursor.token() {
+        b"box" => title(heap, cursor),
+        _ => Err(What::Wanted(Wanted::BoxLine)),
+    }
+}
+
+// How classes are written, by the second line of a box file.
 fn classes_line(cursor: &mut Cursor) -> Result<Writing, What> {
     if cursor.token() != b"classes".as_slice() {
         return Err(What::Wanted(Wanted::ClassesLine));
     }
-    let word = cursor.token();
-    let writing = if word == b"mask".as_slice() {
-        Writing::Mask
-    } else if word == b"range".as_slice() {
-        Writing::Range
-    } else {
-        return Err(What::Wanted(Wanted::Writing));
+    let writing = match cursor.token() {
+        b"mask" => Writing::Mask,
+        b"range" => Writing::Range,
+        _ => return Err(What::Wanted(Wanted::Writing)),
     };
     cursor.end()?;
     Ok(writing)
 }
 
-// The first two lines of a box file.
-fn head(heap: Global, source: &mut Source) -> Result<BoxText, Complaint> {
-    let Some(mut cursor) = source.next() else {
-        return Err(Complaint {
-            line: 0,
-            column: 0,
-            what: What::Nothing,
-        });
-    };
-    let name = box_line(heap, &mut cursor);
-    let name = cursor.complain(name)?;
+// The next line of a file that may not end yet.
+fn first_line<'a>(source: &mut Source<'a>) -> Result<Cursor<'a>, Complaint> {
+    source.next().ok_or(Complaint::of_file(What::Nothing))
+}
+
+// The first two lines of a box file: its name, and a vocabulary without names.
+fn head(heap: Global, source: &mut Source) -> Result<(String, Vocabulary), Complaint> {
+    let mut cursor = first_line(source)?;
+    let name = cursor.read(|line| box_line(heap, line))?;
     // where the second line is missing, the complaint is at the end of the first
     if let Some(next) = source.next() {
         cursor = next;
     }
-    let writing = classes_line(&mut cursor);
-    let writing = cursor.complain(writing)?;
+    let writing = cursor.read(|line| classes_line(line))?;
     let vocabulary = Vocabulary {
         writing,
         kinds: Vec::new(heap),
         marks: Vec::new(heap),
     };
-    Ok(BoxText {
-        name,
-        vocabulary,
-        form: None,
-        entries: Vec::new(heap),
-        sealed: None,
-    })
+    Ok((name, vocabulary))
+}
+
+// The first word of a line of a box file, after its first two lines.
+#[derive(Clone, Copy)]
+enum Keyword {
+    Kind,
+    Mark,
+    Form,
+    Pattern,
+    Record,
+    Seal,
+}
+
+fn first_word(cursor: &mut Cursor) -> Result<Keyword, What> {
+    match cursor.token() {
+        b"kind" => Ok(Keyword::Kind),
+        b"mark" => Ok(Keyword::Mark),
+        b"form" => Ok(Keyword::Form),
+        b"pattern" => Ok(Keyword::Pattern),
+        b"record" => Ok(Keyword::Record),
+        b"seal" => Ok(Keyword::Seal),
+        _ => Err(What::Wanted(Wanted::BoxStatement)),
+    }
+}
+
+// The names that stand before the form, and the line where the form begins, if there is one.
+fn names(source: &mut Source, vocabulary: &mut Vocabulary) -> Result<Option<usize>, Complaint> {
+    while let Some(mut cursor) = source.next() {
+        match cursor.read(|line| first_word(line))? {
+            Keyword::Kind => cursor.read(|line| push_name(line, &mut vocabulary.kinds, 65_535))?,
+            Keyword::Mark => cursor.read(|line| push_name(line, &mut vocabulary.marks, 15))?,
+            Keyword::Form => {
+                cursor.read(|line| line.end())?;
+                return Ok(Some(cursor.line));
+            }
+            Keyword::Pattern | Keyword::Record | Keyword::Seal => {
+                return cursor.complain(Err(What::BeforeForm));
+            }
+        }
+    }
+    Ok(None)
 }
 
 // How a record is written, by the rest of its first line.
@@ -119,184 +153,102 @@ fn record_line(heap: Global, cursor: &mut Cursor) -> Result<(String, Layout), Wh
     Ok((name, Layout::Hex))
 }
 
-fn pattern_line(heap: Global, cursor: &mut Cursor) -> Result<String, What> {
-    let name = name(heap, cursor)?;
-    cursor.end()?;
-    Ok(name)
-}
-
-// The rest of a pattern, after its first word.
-fn pattern(
-    heap: Global,
-    source: &mut Source,
-    mut cursor: Cursor,
-    vocabulary: &Vocabulary,
-) -> Result<PatternText, Complaint>
-    ensures { ReadOn source.old source.new }
-{
-    let line = pattern_line(heap, &mut cursor);
-    let name = cursor.complain(line)?;
-    let table = table(heap, source, vocabulary, cursor.line)?;
-    Ok(PatternText { name, table })
-}
-
-// The rest of a record, after its first word.
-fn record(
-    heap: Global,
-    source: &mut Source,
-    mut cursor: Cursor,
-    vocabulary: &Vocabulary,
-) -> Result<RecordText, Complaint>
-    ensures { ReadOn source.old source.new }
-{
-    let read = record_line(heap, &mut cursor);
-    let (name, layout) = cursor.complain(read)?;
-    let line = cursor.line;
-    let bytes = match layout {
-        Layout::Nodes => nodes(heap, source, vocabulary, line)?,
-        Layout::Hex => hex(heap, source, line)?,
-    };
-    Ok(RecordText {
-        name,
-        bytes,
-        layout,
-        line,
+// Whether a pattern, or a record, has the name of an entry of its sort already.
+fn is_taken(entries: &[Entry], entry: &Entry) -> bool {
+    entries.iter().any(|old| match (old, entry) {
+        (Entry::Pattern(old), Entry::Pattern(new)) => old.name == new.name,
+        (Entry::Record(old), Entry::Record(new)) => old.name == new.name,
+        _ => false,
     })
-}
-
-// No pattern, or no record, has the name of an entry already.
-fn is_new(entries: &[Entry], entry: &Entry) -> bool {
-    for old in entries {
-        let taken = match (old, entry) {
-            (Entry::Pattern(old), Entry::Pattern(new)) => old.name == new.name,
-            (Entry::Record(old), Entry::Record(new)) => old.name == new.name,
-            _ => false,
-        };
-        if taken {
-            return false;
-        }
-    }
-    true
-}
-
-// The first word of a line of a box file, after its first two lines.
-#[derive(Clone, Copy)]
-enum Keyword {
-    Kind,
-    Mark,
-    Form,
-    Pattern,
-    Record,
-    Seal,
-}
-
-fn first_word(word: &[u8]) -> Option<Keyword> {
-    match word {
-        b"kind" => Some(Keyword::Kind),
-        b"mark" => Some(Keyword::Mark),
-        b"form" => Some(Keyword::Form),
-        b"pattern" => Some(Keyword::Pattern),
-        b"record" => Some(Keyword::Record),
-        b"seal" => Some(Keyword::Seal),
-        _ => None,
-    }
 }
 
 // Adds a pattern or a record to what a box file says.
 fn push_entry(entry: Entry, entries: &mut Vec<Entry>) -> Result<(), What> {
-    if !is_new(entries, &entry) {
+    if is_taken(entries, &entry) {
         return Err(What::TitleTwice);
     }
     entries.push(entry)?;
     Ok(())
 }
 
-// A line that gives a name, which has to stand before the form.
-fn name_line(
-    heap: Global,
-    cursor: &mut Cursor,
-    whole: &mut BoxText,
-    of_mark: bool,
-) -> Result<(), What> {
-    if whole.form.is_some() {
-        return Err(What::NameLate);
+impl<'a> Reader<'a> {
+    // Begins a file, if it is text.
+    fn new(
+        heap: Global,
+        text: &'a [u8],
+        vocabulary: &'a Vocabulary,
+    ) -> Result<Reader<'a>, Complaint>
+        ensures { IsOk result ↔ IsText text.now }
+    {
+        check_text(text)?;
+        Ok(Reader {
+            heap,
+            source: Source::new(text),
+            vocabulary,
+        })
     }
-    if of_mark {
-        push_name(heap, cursor, &mut whole.vocabulary.marks, 15)
-    } else {
-        push_name(heap, cursor, &mut whole.vocabulary.kinds, 65_535)
-    }
-}
 
-// The rest of the form, after its first word.
-fn form(
-    heap: Global,
-    source: &mut Source,
-    mut cursor: Cursor,
-    whole: &mut BoxText,
-) -> Result<(), Complaint>
-    ensures { ReadOn source.old source.new }
-{
-    let ended = if whole.form.is_some() {
-        Err(What::FormLate)
-    } else {
-        cursor.end()
-    };
-    cursor.complain(ended)?;
-    whole.form = Some(table(heap, source, &whole.vocabulary, cursor.line)?);
-    Ok(())
-}
+    // The rest of a pattern, after its first word.
+    fn pattern(&mut self, mut cursor: Cursor<'a>) -> Result<PatternText, Complaint>
+        ensures { ReadOn self.old.source self.new.source }
+    {
+        let heap = self.heap;
+        let name = cursor.read(|line| title(heap, line))?;
+        let table = self.table(cursor.line)?;
+        Ok(PatternText { name, table })
+    }
 
-// The rest of a pattern, a record or the seal, which have to stand after the form and before the seal.
-fn entry(
-    heap: Global,
-    source: &mut Source,
-    mut cursor: Cursor,
-    first: Keyword,
-    whole: &mut BoxText,
-) -> Result<(), Complaint>
-    ensures { ReadOn source.old source.new }
-{
-    if whole.form.is_none() {
-        return cursor.complain(Err(What::BeforeForm));
+    // The rest of a record, after its first word.
+    fn record(&mut self, mut cursor: Cursor<'a>) -> Result<RecordText, Complaint>
+        ensures { ReadOn self.old.source self.new.source }
+    {
+        let heap = self.heap;
+        let (name, layout) = cursor.read(|line| record_line(heap, line))?;
+        let line = cursor.line;
+        let bytes = match layout {
+            Layout::Nodes => self.nodes(line)?,
+            Layout::Hex => self.hex(line)?,
+        };
+        Ok(RecordText {
+            name,
+            bytes,
+            layout,
+            line,
+        })
     }
-    if whole.sealed.is_some() {
-        return cursor.complain(Err(What::AfterSeal));
+
+    // One statement of a box file after its form.
+    fn statement(&mut self, mut cursor: Cursor<'a>, laid: &mut LaidText) -> Result<(), Complaint>
+        ensures { ReadOn self.old.source self.new.source }
+    {
+        let sealed = laid.sealed.is_some();
+        let entry = match cursor.read(|line| first_word(line))? {
+            Keyword::Kind | Keyword::Mark => return cursor.complain(Err(What::NameLate)),
+            Keyword::Form => return cursor.complain(Err(What::FormLate)),
+            Keyword::Pattern | Keyword::Record | Keyword::Seal if sealed => {
+                return cursor.complain(Err(What::AfterSeal));
+            }
+            Keyword::Pattern => Entry::Pattern(self.pattern(cursor)?),
+            Keyword::Record => Entry::Record(self.record(cursor)?),
+            Keyword::Seal => {
+                laid.sealed = Some(cursor.line);
+                return cursor.read(|line| line.end());
+            }
+        };
+        cursor.complain(push_entry(entry, &mut laid.entries))
     }
-    let vocabulary = &whole.vocabulary;
-    let entry = match first {
-        Keyword::Pattern => Entry::Pattern(pattern(heap, source, cursor, vocabulary)?),
-        Keyword::Record => Entry::Record(record(heap, source, cursor, vocabulary)?),
-        _ => {
-            whole.sealed = Some(cursor.line);
-            let ended = cursor.end();
-            return cursor.complain(ended);
+
+    // What a box file says from its form on; `line` is where the form begins.
+    fn laid(mut self, line: usize) -> Result<LaidText, Complaint> {
+        let mut laid = LaidText {
+            form: self.table(line)?,
+            entries: Vec::new(self.heap),
+            sealed: None,
+        };
+        while let Some(cursor) = self.source.next() {
+            self.statement(cursor, &mut laid)?;
         }
-    };
-    let pushed = push_entry(entry, &mut whole.entries);
-    cursor.complain(pushed)
-}
-
-// One statement of a box file, after its first two lines.
-fn statement(
-    heap: Global,
-    source: &mut Source,
-    mut cursor: Cursor,
-    whole: &mut BoxText,
-) -> Result<(), Complaint>
-    ensures { ReadOn source.old source.new }
-{
-    let Some(first) = first_word(cursor.token()) else {
-        return cursor.complain(Err(What::Wanted(Wanted::BoxStatement)));
-    };
-    match first {
-        Keyword::Kind | Keyword::Mark => {
-            let of_mark = matches!(first, Keyword::Mark);
-            let named = name_line(heap, &mut cursor, whole, of_mark);
-            cursor.complain(named)
-        }
-        Keyword::Form => form(heap, source, cursor, whole),
-        _ => entry(heap, source, cursor, first, whole),
+        Ok(laid)
     }
 }
 
@@ -304,36 +256,41 @@ fn statement(
 pub(crate) fn read_box(heap: Global, text: &[u8]) -> Result<BoxText, Complaint> {
     check_text(text)?;
     let mut source = Source::new(text);
-    let mut whole = head(heap, &mut source)?;
-    while let Some(cursor) = source.next() {
-        statement(heap, &mut source, cursor, &mut whole)?;
-    }
-    Ok(whole)
+    let (name, mut vocabulary) = head(heap, &mut source)?;
+    let laid = match names(&mut source, &mut vocabulary)? {
+        None => None,
+        Some(line) => {
+            let reader = Reader {
+                heap,
+                source,
+                vocabulary: &vocabulary,
+            };
+            Some(reader.laid(line)?)
+        }
+    };
+    Ok(BoxText {
+        name,
+        vocabulary,
+        laid,
+    })
 }
 
-// The first line of a file that holds one block.
-fn only_block<'a>(
-    source: &mut Source<'a>,
+// What a file says that holds one block, which begins with a word; `block` reads the rest of it.
+fn read_one<'a, T: Drop, F: FnOnce(&mut Reader<'a>, Cursor<'a>) -> Result<T, Complaint>>(
+    mut reader: Reader<'a>,
     word: &[u8],
     wanted: Wanted,
-) -> Result<Cursor<'a>, Complaint> {
-    let Some(mut cursor) = source.next() else {
-        return Err(Complaint {
-            line: 0,
-            column: 0,
-            what: What::Nothing,
-        });
-    };
+    block: F,
+) -> Result<T, Complaint>
+    requires { F.IsAlwaysCallable block }
+{
+    let mut cursor = first_line(&mut reader.source)?;
     if cursor.token() != word {
         return cursor.complain(Err(What::Wanted(wanted)));
     }
-    Ok(cursor)
-}
-
-// Refuses what stands after the one block of a file.
-fn check_over(source: &mut Source) -> Result<(), Complaint> {
-    match source.next() {
-        None => Ok(()),
+    let read = block(&mut reader, cursor)?;
+    match reader.source.next() {
+        None => Ok(read),
         Some(cursor) => cursor.complain(Err(What::SecondBlock)),
     }
 }
@@ -344,12 +301,10 @@ pub(crate) fn read_pattern(
     text: &[u8],
     vocabulary: &Vocabulary,
 ) -> Result<PatternText, Complaint> {
-    check_text(text)?;
-    let mut source = Source::new(text);
-    let cursor = only_block(&mut source, b"pattern", Wanted::PatternBlock)?;
-    let pattern = pattern(heap, &mut source, cursor, vocabulary)?;
-    check_over(&mut source)?;
-    Ok(pattern)
+    let reader = Reader::new(heap, text, vocabulary)?;
+    read_one(reader, b"pattern", Wanted::PatternBlock, |reader, cursor| {
+        reader.pattern(cursor)
+    })
 }
 
 // What a record file in the notation says.
@@ -358,10 +313,8 @@ pub(crate) fn read_record(
     text: &[u8],
     vocabulary: &Vocabulary,
 ) -> Result<RecordText, Complaint> {
-    check_text(text)?;
-    let mut source = Source::new(text);
-    let cursor = only_block(&mut source, b"record", Wanted::RecordBlock)?;
-    let record = record(heap, &mut source, cursor, vocabulary)?;
-    check_over(&mut source)?;
-    Ok(record)
+    let reader = Reader::new(heap, text, vocabulary)?;
+    read_one(reader, b"record", Wanted::RecordBlock, |reader, cursor| {
+        reader.record(cursor)
+    })
 }

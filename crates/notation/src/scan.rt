@@ -1,15 +1,16 @@
 // Lines of a file, and the words, numbers and texts in a line.
-ghost use Rattle.std.specs.Prelude.{◌≡◌, ◌+◌, ◌<◌, ◌≤◌, true, length, IfSome, IfOk, MatchBool, MatchOption, OnOk, slice_index};
+ghost use Rattle.std.specs.Prelude.{◌≡◌, ◌+◌, ◌<◌, ◌≤◌, true, length, Result, IfSome, IfOk, MatchBool, MatchOption, OnOk, slice_index};
 ghost use Rattle.std.specs.Result.{result_ok};
 ghost use Rattle.notation.specs.Text.{is_control};
-ghost use Rattle.notation.specs.Scan.{LineEnd, Onward, Gave, ReadOn, Went, Passed, TextPassed, last};
+ghost use Rattle.std.specs.Fn.{FnReturnsAt, FnOnceReturnsAtMut};
+ghost use Rattle.notation.specs.Scan.{LineEnd, EndsBy, Gave, ReadOn, Went, Passed, TextPassed, last};
 
-use crate::complaint::{Complaint, Wanted, What};
+use crate::complaint::{Complaint, Position, Wanted, What};
 use crate::number::decimal;
 use crate::quote::{Unquoted, unquote};
 use std::alloc::Global;
 
-// A file, and where its next line begins.
+// A file, and where its next line begins: a place, not the rest of the file, since contracts compare places in one file.
 #[derive(Drop)]
 pub struct Source<'a> {
     text: &'a [u8],
@@ -18,6 +19,8 @@ pub struct Source<'a> {
 }
 
 // A line and its number, how far it has been read, and where what was looked at last begins.
+// These are places, not the rest of the line, since contracts compare places in one line.
+// It has no heap for what it reads: `is_text` looks at lines too, and is given none.
 #[derive(Clone, Copy)]
 pub struct Cursor<'a> {
     bytes: &'a [u8],
@@ -38,7 +41,17 @@ pub(crate) fn is_control(b: u8) -> bool
 }
 
 fn is_word(b: u8) -> bool {
-    matches!(b, b'a'..=b'z' | b'A'..=b'Z' | b'0'..=b'9' | b'_' | b'-')
+    b.is_ascii_alphanumeric() || matches!(b, b'_' | b'-')
+}
+
+// Where what begins at a place ends: at the first byte that stops it, or with the bytes.
+fn end_of<F: Fn(&u8) -> bool>(bytes: &[u8], at: usize, stops: F) -> usize
+    requires within { at ≤ length bytes.now }
+    requires callable { F.IsAlwaysCallable stops }
+    ensures { EndsBy (FnReturnsAt F.Fn stops) bytes.now at result }
+{
+    let rest = &bytes[at..];
+    at + rest.iter().position(stops).unwrap_or(rest.len())
 }
 
 // Where the line that begins at a place ends.
@@ -46,35 +59,7 @@ fn line_end(text: &[u8], at: usize) -> usize
     requires { at ≤ length text.now }
     ensures { LineEnd text.now at result }
 {
-    let mut end = at;
-    while end < text.len() && text[end] != b'\n' {
-        end += 1;
-    }
-    end
-}
-
-// Where the blanks that begin at a place end.
-fn past_blanks(bytes: &[u8], at: usize) -> usize
-    requires { at ≤ length bytes.now }
-    ensures { Onward bytes.now at result }
-{
-    let mut end = at;
-    while end < bytes.len() && is_blank(bytes[end]) {
-        end += 1;
-    }
-    end
-}
-
-// Where the word that begins at a place ends.
-fn past_word(bytes: &[u8], at: usize) -> usize
-    requires { at ≤ length bytes.now }
-    ensures { Onward bytes.now at result }
-{
-    let mut end = at;
-    while end < bytes.len() && is_word(bytes[end]) {
-        end += 1;
-    }
-    end
+    end_of(text, at, |b| *b == b'\n')
 }
 
 impl<'a> Source<'a> {
@@ -131,7 +116,7 @@ impl<'a> Cursor<'a> {
     {
         let bytes = self.bytes;
         if self.at < bytes.len() {
-            self.at = past_blanks(bytes, self.at);
+            self.at = end_of(bytes, self.at, |b| !is_blank(*b));
         }
         let at = self.at;
         self.start = at;
@@ -165,7 +150,7 @@ impl<'a> Cursor<'a> {
             return &[];
         }
         let from = self.at;
-        let to = past_word(bytes, from);
+        let to = end_of(bytes, from, |b| !is_word(*b));
         self.at = to;
         &bytes[from..to]
     }
@@ -199,6 +184,20 @@ impl<'a> Cursor<'a> {
         decimal(word, most)
     }
 
+    // The number that is next, if it is at most `most`, which fits in 16 bits.
+    pub(crate) fn number16(&mut self, most: u16) -> Result<u16, What>
+        ensures { IfOk result (λ n. Passed self.old self.new × (n ≤ most)) }
+    {
+        Ok(self.number(most as u32)? as u16)
+    }
+
+    // The state that is next.
+    pub(crate) fn state(&mut self) -> Result<u8, What>
+        ensures { OnOk result (Passed self.old self.new) }
+    {
+        Ok(self.number(255)? as u8)
+    }
+
     // The bytes that the text in quotes that is next spells.
     pub(crate) fn text(&mut self, heap: Global) -> Result<Vec<u8>, What>
         ensures { IfOk result (λ v. TextPassed self.old self.new v.items) }
@@ -219,42 +218,45 @@ impl<'a> Cursor<'a> {
 
     // Refuses a line that is not UTF-8 or has a control character.
     pub(crate) fn check_line(&mut self) -> Result<(), What> {
-        for (at, b) in self.bytes.iter().enumerate() {
-            if is_control(*b) {
-                self.start = at;
-                return Err(What::ControlCharacter);
-            }
+        if let Some(at) = self.bytes.iter().position(|b| is_control(*b)) {
+            self.start = at;
+            return Err(What::ControlCharacter);
         }
-        match std::str::from_utf8(self.bytes) {
-            Ok(_) => Ok(()),
-            Err(_) => Err(What::NotUtf8),
-        }
+        std::str::from_utf8(self.bytes).map_err(|_| What::NotUtf8)?;
+        Ok(())
     }
 
     // The column of what was looked at last, counted in characters from 1.
     fn column(&self) -> usize
         ensures { 0 < result }
     {
-        let mut column: usize = 1;
-        for b in self.bytes.iter().take(self.start) {
-            if *b & 0xc0 != 0x80 {
-                column = column.saturating_add(1);
-            }
-        }
-        column
+        let before = self.bytes.iter().take(self.start);
+        let characters = before.filter(|b| **b & 0xc0 != 0x80).count();
+        characters.saturating_add(1)
     }
 
     // A result, or the complaint at what was looked at last.
     pub(crate) fn complain<T>(&self, res: Result<T, What>) -> Result<T, Complaint>
         ensures { result_ok result ≡ result_ok res }
     {
-        match res {
-            Ok(value) => Ok(value),
-            Err(what) => Err(Complaint {
+        res.map_err(|what| Complaint {
+            position: Some(Position {
                 line: self.line,
                 column: self.column(),
-                what,
             }),
-        }
+            what,
+        })
+    }
+
+    // What a step reads on the line, or the complaint at what it looked at last.
+    pub(crate) fn read<T, F: FnOnce(&mut Cursor<'a>) -> Result<T, What>>(
+        &mut self,
+        step: F,
+    ) -> Result<T, Complaint>
+        requires { F.IsAlwaysCallable step }
+        ensures { (r : Result T What) × FnOnceReturnsAtMut F.FnOnce step self.old r self.new × (result_ok result ≡ result_ok r) }
+    {
+        let res = step(self);
+        self.complain(res)
     }
 }

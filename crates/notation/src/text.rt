@@ -12,28 +12,18 @@ pub const MAX_FILE: usize = 268_435_456;
 fn is_plain(bytes: &[u8]) -> bool
     ensures { (result ≡ true) ↔ Plain bytes.now }
 {
-    for byte in bytes {
-        if is_control(*byte) {
-            return false;
-        }
-    }
-    true
+    bytes.iter().all(|byte| !is_control(*byte))
 }
 
 // The first line that is not UTF-8 or has a control character, in bytes that are not text.
 fn fault(text: &[u8]) -> Complaint {
     let mut source = Source::new(text);
     while let Some(mut cursor) = source.next_line() {
-        let checked = cursor.check_line();
-        if let Err(complaint) = cursor.complain(checked) {
+        if let Err(complaint) = cursor.read(|line| line.check_line()) {
             return complaint;
         }
     }
-    Complaint {
-        line: 0,
-        column: 0,
-        what: What::NotUtf8,
-    }
+    Complaint::of_file(What::NotUtf8)
 }
 
 // Refuses a file that is too large, is not UTF-8 or has a control character.
@@ -41,11 +31,7 @@ pub(crate) fn check_text(text: &[u8]) -> Result<(), Complaint>
     ensures { IsOk result ↔ IsText text.now }
 {
     if text.len() > MAX_FILE {
-        return Err(Complaint {
-            line: 0,
-            column: 0,
-            what: What::FileTooLarge,
-        });
+        return Err(Complaint::of_file(What::FileTooLarge));
     }
     if is_plain(text) && std::str::from_utf8(text).is_ok() {
         Ok(())

@@ -87,6 +87,7 @@ pub struct Name {
 }
 
 // How the classes of a box are written, and the names of its kinds and marks.
+// The names are lists and no maps: they are looked up by word and by number, and keep the order of the file.
 #[derive(Drop, PartialEq, Eq, Debug)]
 pub struct Vocabulary {
     pub writing: Writing,
@@ -94,13 +95,18 @@ pub struct Vocabulary {
     pub marks: Vec<Name>,
 }
 
-// A box file: its form, then the patterns and records in the order of the calls, and the line of the seal.
-#[derive(Drop)]
-#[derive_where(PartialEq, Eq, Debug)]
+// What a box file says from its form on: the form, the patterns and records in the order of the calls, and the line of the seal.
+#[derive(Drop, PartialEq, Eq, Debug)]
+pub struct LaidText {
+    pub form: TableText,
+    pub entries: Vec<Entry>,
+    pub sealed: Option<usize>,
+}
+
+// A box file: its name, how its classes are written, its names, and what follows if a form is laid.
+#[derive(Drop, PartialEq, Eq, Debug)]
 pub struct BoxText {
     pub name: String,
     pub vocabulary: Vocabulary,
-    pub form: Option<TableText>,
-    pub entries: Vec<Entry>,
-    pub sealed: Option<usize>,
+    pub laid: Option<LaidText>,
 }

@@ -16,7 +16,6 @@ pub mod Indexing
 pub mod Offsets
 pub mod Begins
 pub mod Fills
-pub mod Looks
 pub mod Finds
 pub mod Outcomes
 pub mod Examples

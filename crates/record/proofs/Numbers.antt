@@ -46,12 +46,13 @@ pub numbers_kept : NumbersKept
 numbers_kept = record { long = length_le; bytes = bytes_le; back = value_le; again = le_value; bound = value_bound; reads = value_reads; reads_none = value_none }
 
 -- numbers of two and of four bytes, as a program reads them
-pub half_at : (bytes : List ℕ) (o : ℕ) → o + 2 ≤ length bytes → value (between bytes o (o + 2)) ≡ get_or bytes o 0 + get_or bytes (o + 1) 0 * 256
-half_at bytes o h =
-    let e : (o + 1) + 1 ≡ o + 2 = omega arith in
-    let a = value_reads bytes o (o + 2) (omega arith) h in
-    let b = value_reads bytes (o + 1) (o + 2) (omega arith) h in
-    let z = ap (λ n. value (between bytes n (o + 2))) e ∙ value_none bytes (o + 2) in
+pub half_at : (bytes : List ℕ) (o p q : ℕ) → o + 1 ≡ p → p + 1 ≡ q → q ≤ length bytes → value (between bytes o q) ≡ get_or bytes o 0 + get_or bytes p 0 * 256
+half_at bytes o p q d e h =
+    let a = value_reads bytes o q (omega arith) h in
+    let a' = ap (λ n. value (between bytes n q)) d in
+    let b = value_reads bytes p q (omega arith) h in
+    let b' = ap (λ n. value (between bytes n q)) e in
+    let z = value_none bytes q in
     omega arith
 
 pub word_at : (bytes : List ℕ) (o : ℕ) → o + 4 ≤ length bytes

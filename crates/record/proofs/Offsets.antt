@@ -7,8 +7,7 @@ use Rattle.record.specs.Nodes.{Nodes, nil, node, bytes_of, count, Fit}
 use Rattle.record.specs.declared.fault.Flaw.{Flaw}
 use Rattle.record.specs.declared.fault.Flaw.TheVariants.{TooDeep, TooMany, CutShort, TextTooLong}
 use Rattle.record.specs.declared.fault.Cause.TheVariants.{Flawed}
-use Rattle.record.specs.declared.fault.Fault.{Fault}
-use Rattle.record.specs.Fault.{number}
+use Rattle.record.specs.Fault.{Fault, number}
 use Rattle.record.specs.Record.{inside_at, end_at, Called, Holds, Due, first, inside, after, OnlyLimits}
 use Rattle.record.specs.Index.{span, entries, Listed, Offsets}
 use Rattle.record.proofs.Slices.{between_length, between_all}

@@ -1,7 +1,7 @@
 -- What index and text promise leaves one answer.
 use Rattle.std.proofs.Common.{◌≡◌, ℕ, ◌+◌, List, length, take, Ok, Err, Result, sym, ap, ◌∙◌, subst, inl, inr, arith}
 use Rattle.record.specs.declared.index.Entry.{Entry}
-use Rattle.record.specs.declared.fault.Fault.{Fault}
+use Rattle.record.specs.Fault.{Fault}
 use Rattle.record.specs.Nodes.{Nodes, nil, node, count}
 use Rattle.record.specs.Record.{IsRecord}
 use Rattle.record.specs.Index.{span, entries, IndexedAs, Unindexed, Indexes}

@@ -1,11 +1,13 @@
 -- What a place of a list of entries shows.
-use Rattle.std.proofs.Common.{◌≡◌, ℕ, zero, suc, ◌<◌, ◌≤◌, Bool, true, false, cond, ◌&&◌, ltb, List, Some, None, Option, refl, ap, ◌∙◌, arith}
+use Rattle.std.proofs.Common.{◌≡◌, ℕ, zero, suc, ◌<◌, ◌≤◌, ◌&&◌, ltb, List, Some, None, Option, refl, ap, ◌∙◌, arith}
 use Rattle.std.specs.List.{slice_get}
-use Rattle.std.proofs.lemmas.Bool.{ltb-true, lt-ltb, and_parts, and_from, cond-true}
+use Rattle.std.proofs.lemmas.Bool.{lt-ltb, and_from, cond-true}
+use Rattle.std.proofs.lemmas.Bool.Decides.{nat_tests}
 use Rattle.record.specs.declared.run.Node.{Node}
 use Rattle.record.specs.declared.index.Entry.{Entry}
-use Rattle.record.specs.Run.{Lower}
+use Rattle.record.specs.Run.{if_lower}
 use Rattle.record.specs.Index.{lower_only, seen}
+use Rattle.record.specs.Places.{left_is_lower}
 
 pub seen_shown : (list : List Entry) (k : ℕ) (e : Entry) → slice_get list k ≡ Some e → e.node.inside ≤ k → e.node.after ≤ k → seen list (suc k) ≡ Some e.node
 seen_shown list k e h i a =
@@ -23,11 +25,8 @@ pub record Shown (list : List Entry) (p : ℕ) (n : Node) : Type 0 where
   pub inside_low : n.inside < p
   pub after_low : n.after < p
 
-kept : (p : ℕ) (e : Entry) (n : Node) (b : Bool) → (ltb e.node.inside p && ltb e.node.after p) ≡ b → cond b (Some e.node) None ≡ Some n
-    → (e.node ≡ n) × (e.node.inside < p) × (e.node.after < p)
-kept p e n true t h =
-    let u = and_parts (ltb e.node.inside p) (ltb e.node.after p) t in (cc, ltb-true e.node.inside p u.0, ltb-true e.node.after p u.1)
-kept p e n false t h = let z : ◌≡◌ {A = ℕ} 0 1 = cc in absurd (omega arith)
+left_is : (p : ℕ) (m n : Node) → if_lower p m ≡ Some n → m ≡ n
+left_is p m n h = grind (arith, nat_tests)
 
 pub shown : (list : List Entry) (p : ℕ) (n : Node) → seen list p ≡ Some n → Shown list p n
 shown list zero n h = let z : ◌≡◌ {A = ℕ} 0 1 = cc in absurd (omega arith)
@@ -36,8 +35,5 @@ shown list (suc k) n h = go (slice_get list k) refl h
     go : (o : Option Entry) → slice_get list k ≡ o → lower_only (suc k) o ≡ Some n → Shown list (suc k) n
     go None e g = let z : ◌≡◌ {A = ℕ} 0 1 = cc in absurd (omega arith)
     go (Some x) e g =
-        let u = kept (suc k) x n _ refl g in
-        record { k = k; entry = x; place_is = refl; at = e; node_is = u.0; inside_low = rw u.0 at u.1; after_low = rw u.0 at u.2 }
-
-pub seen_lower : (list : List Entry) → Lower (seen list)
-seen_lower list p n h = let s = shown list p n h in (s.inside_low, s.after_low)
+        let l = left_is_lower (suc k) x.node n g in
+        record { k = k; entry = x; place_is = refl; at = e; node_is = left_is (suc k) x.node n g; inside_low = l.0; after_low = l.1 }

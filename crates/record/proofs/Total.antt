@@ -4,8 +4,7 @@ use Rattle.std.proofs.lemmas.Bool.{cases_lt}
 use Rattle.record.specs.Limits.{max_bytes, max_nodes, max_levels}
 use Rattle.record.specs.Numbers.{Bytes, le, value, between}
 use Rattle.record.specs.Nodes.{Nodes, nil, node, bytes_of, count}
-use Rattle.record.specs.declared.fault.Fault.{Fault}
-use Rattle.record.specs.Fault.{too_long, flawed}
+use Rattle.record.specs.Fault.{Fault, too_long, flawed}
 use Rattle.record.specs.Record.{IsRecord, size_at, text_at, inside_at, end_at, Sound, Holds, Due, first, inside, after, Faulty, Refused}
 use Rattle.record.proofs.Numbers.{le_value, value_bound}
 use Rattle.record.proofs.Slices.{between_length, between_bytes, between_all, between_none, between_split}

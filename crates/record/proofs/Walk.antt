@@ -4,8 +4,7 @@ use native.Mathlib.Decide.{dec_lt}
 use Rattle.record.specs.Numbers.{between}
 use Rattle.record.specs.Nodes.{Nodes, nil, node, bytes_of, count}
 use Rattle.record.specs.declared.fault.Flaw.{Flaw}
-use Rattle.record.specs.declared.fault.Fault.{Fault}
-use Rattle.record.specs.Fault.{flawed}
+use Rattle.record.specs.Fault.{Fault, flawed}
 use Rattle.record.specs.Record.{IsRecord, inside_at, end_at, Called, Sound, Holds, Due, first, inside, after, Faulty, Refused}
 use Rattle.record.proofs.Slices.{between_length, between_all}
 use Rattle.record.proofs.Flaws.{settle, sound_not_called, called_one}

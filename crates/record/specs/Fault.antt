@@ -4,7 +4,7 @@ use Rattle.record.specs.declared.fault.Flaw.{Flaw}
 use Rattle.record.specs.declared.fault.Flaw.TheVariants.{TooDeep, TooMany, CutShort, TextTooLong}
 use Rattle.record.specs.declared.fault.Cause.{Cause}
 use Rattle.record.specs.declared.fault.Cause.TheVariants.{TooLong, Flawed, ShortList, NoNode}
-use Rattle.record.specs.declared.fault.Fault.{Fault}
+use Rattle.record.specs.declared.fault.Refusal.{Refusal}
 use Rattle.record.specs.Limits.{max_nodes}
 
 abbrev pub number : Cause → ℕ
@@ -15,6 +15,10 @@ number (Flawed TooDeep) = 4
 number (Flawed TooMany) = 5
 number ShortList = 8
 number NoNode = 13
+
+-- a refusal of the record layer
+abbrev pub Fault : Type 0
+Fault = Refusal Cause
 
 -- too many bytes
 abbrev pub too_long : Fault

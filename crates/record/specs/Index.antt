@@ -1,15 +1,14 @@
 -- The index of a record: an entry for each node, place 1 the last in byte order.
-use Rattle.std.specs.Prelude.{◌≡◌, ℕ, zero, suc, ◌+◌, ◌<◌, ◌≤◌, min, cond, ◌&&◌, ◌⊎◌, ◌↔◌, List, [], ◌∷◌, ◌++◌, length, take, Some, None, Option, Result, MatchResult, nat_lt}
+use Rattle.std.specs.Prelude.{◌≡◌, ℕ, zero, suc, ◌+◌, ◌<◌, ◌≤◌, min, ◌⊎◌, ◌↔◌, List, [], ◌∷◌, ◌++◌, length, take, Some, None, Option, Result, MatchResult}
 use Rattle.std.specs.List.{slice_get}
 use Rattle.record.specs.declared.run.Node.{Node}
 use Rattle.record.specs.declared.index.Entry.{Entry}
-use Rattle.record.specs.declared.fault.Fault.{Fault}
+use Rattle.record.specs.Fault.{Fault, short_list}
 use Rattle.record.specs.Limits.{max_nodes, max_place}
-use Rattle.record.specs.Fault.{short_list}
 use Rattle.record.specs.Numbers.{between}
 use Rattle.record.specs.Nodes.{Nodes, nil, node, bytes_of, count}
 use Rattle.record.specs.Record.{IsRecord, Refused, end_at, Due}
-use Rattle.record.specs.Run.{Run, Lower, run_at, Spans}
+use Rattle.record.specs.Run.{Run, Lower, if_lower, run_at, Spans}
 
 -- the run of the kinds alone
 abbrev pub erase : Nodes → Run
@@ -35,7 +34,7 @@ entries base o (node k t i a) =
 -- an entry that names a place not lower than its own counts as empty
 abbrev pub lower_only : ℕ → Option Entry → Option Node
 lower_only p None = None
-lower_only p (Some e) = cond (nat_lt e.node.inside p && nat_lt e.node.after p) (Some e.node) None
+lower_only p (Some e) = if_lower p e.node
 
 -- place k is entry k - 1
 abbrev pub seen : List Entry → ℕ → Option Node

@@ -1,7 +1,7 @@
 -- The laws of records, of their index and of runs.
 use Rattle.std.specs.Prelude.{◌≡◌, ℕ, List, length, take, Result}
 use Rattle.record.specs.declared.index.Entry.{Entry}
-use Rattle.record.specs.declared.fault.Fault.{Fault}
+use Rattle.record.specs.Fault.{Fault}
 use Rattle.record.specs.Numbers.{NumbersKept}
 use Rattle.record.specs.Nodes.{Injective}
 use Rattle.record.specs.Record.{OneFlaw, OneVerdict, OnlyLimits}

@@ -2,10 +2,15 @@
 use Rattle.std.specs.Prelude.{◌≡◌, ℕ, ◌+◌, ◌<◌, ◌≤◌, List, length}
 use Rattle.record.specs.declared.parse.Head.{Head}
 use Rattle.record.specs.declared.parse.Passed.{Passed}
+use Rattle.record.specs.declared.parse.Rest.{Rest}
 use Rattle.record.specs.Limits.{max_bytes, max_nodes, max_levels}
 use Rattle.record.specs.Numbers.{Bytes, value, between}
 use Rattle.record.specs.Nodes.{Nodes, count}
 use Rattle.record.specs.Record.{inside_at, end_at, Sound, Holds, Due, IsRecord}
+
+-- what is said of a rest of a run, by its bytes, offset, end, level and number of nodes before
+abbrev pub at : {R : Type 1} → (List ℕ → ℕ → ℕ → ℕ → ℕ → R) → Rest → R
+at P r = P r.bytes.now r.at r.end r.level r.before
 
 abbrev pub kind_at : List ℕ → ℕ → ℕ
 kind_at bytes o = value (between bytes (o + 4) (o + 6))

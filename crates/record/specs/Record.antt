@@ -2,9 +2,8 @@
 use Rattle.std.specs.Prelude.{◌≡◌, ℕ, ◌+◌, ◌<◌, ◌≤◌, ◌⊎◌, List, length}
 use Rattle.record.specs.declared.fault.Flaw.{Flaw}
 use Rattle.record.specs.declared.fault.Flaw.TheVariants.{TooDeep, TooMany, CutShort, TextTooLong}
-use Rattle.record.specs.declared.fault.Fault.{Fault}
+use Rattle.record.specs.Fault.{Fault, number, too_long, flawed}
 use Rattle.record.specs.Limits.{max_bytes, max_nodes, max_levels}
-use Rattle.record.specs.Fault.{number, too_long, flawed}
 use Rattle.record.specs.Numbers.{Bytes, value, between}
 use Rattle.record.specs.Nodes.{Nodes, bytes_of, count, levels, Fit}
 

@@ -1,5 +1,5 @@
 -- Runs of nodes, and the run that begins at a place of a table.
-use Rattle.std.specs.Prelude.{◌≡◌, ℕ, zero, suc, ◌+◌, ◌<◌, ◌≤◌, Some, None, Option}
+use Rattle.std.specs.Prelude.{◌≡◌, ℕ, zero, suc, ◌+◌, ◌<◌, ◌≤◌, ◌&&◌, Some, None, Option, cond, nat_lt}
 use Rattle.record.specs.declared.run.Node.{Node}
 use Rattle.record.specs.Limits.{max_place}
 
@@ -11,6 +11,10 @@ pub data Run : Type 0 where
 -- a node names only places below its own
 abbrev pub Lower : (ℕ → Option Node) → Type 0
 Lower seen = (p : ℕ) (n : Node) → seen p ≡ Some n → (n.inside < p) × (n.after < p)
+
+-- a node at a place, or nothing if it names a place not lower than that
+abbrev pub if_lower : ℕ → Node → Option Node
+if_lower p n = cond (nat_lt n.inside p && nat_lt n.after p) (Some n) None
 
 -- what every run interface owes of its top place and of what its places show; so nothing is seen at place 0
 pub record Places (top : ℕ) (seen : ℕ → Option Node) : Type 0 where

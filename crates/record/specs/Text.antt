@@ -1,10 +1,9 @@
 -- The text of the node that starts at an offset.
 use Rattle.std.specs.Prelude.{◌≡◌, ℕ, ◌+◌, ◌≤◌, ◌⊎◌, List, length}
 use Rattle.record.specs.declared.parse.Head.{Head}
-use Rattle.record.specs.declared.fault.Fault.{Fault}
+use Rattle.record.specs.Fault.{Fault, no_node}
 use Rattle.record.specs.Numbers.{between}
 use Rattle.record.specs.Nodes.{Nodes, nil, node}
-use Rattle.record.specs.Fault.{no_node}
 use Rattle.record.specs.Record.{IsRecord, Refused}
 use Rattle.record.specs.Index.{span}
 use Rattle.record.specs.Fill.{Spelt}

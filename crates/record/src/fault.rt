@@ -1,5 +1,30 @@
-ghost use Rattle.std.specs.Prelude.{◌≡◌};
+ghost use Rattle.std.specs.Prelude.{◌≡◌, ℕ};
 ghost use Rattle.record.specs.Fault.{number};
+
+// Why a layer refuses: each cause has a number. It is told by a `match`, as a cause may hold data, and `as` gives no number of such.
+pub trait Numbered {
+    ghost numbered: { Self → ℕ };
+
+    // The number of the refusal.
+    fn number(&self) -> u8
+        ensures { result ≡ numbered self.now };
+}
+
+// A refusal of a layer: why, and where. By a rule of the project the place is a number, whatever it counts.
+#[derive(Clone, Copy, PartialEq, Eq, Debug)]
+pub struct Refusal<C> {
+    pub cause: C,
+    pub place: usize,
+}
+
+impl<C: Numbered> Refusal<C> {
+    // The number of the refusal.
+    pub fn number(&self) -> u8
+        ensures { result ≡ C.Numbered.numbered self.now.cause }
+    {
+        self.cause.number()
+    }
+}
 
 // What can be wrong with a node, in the order in which it is asked.
 #[derive(Clone, Copy, PartialEq, Eq, Debug)]
@@ -19,19 +44,11 @@ pub enum Cause {
     NoNode,
 }
 
-// A refusal of the record layer: why, and where.
-#[derive(Clone, Copy, PartialEq, Eq, Debug)]
-pub struct Fault {
-    pub cause: Cause,
-    pub place: usize,
-}
+impl Numbered for Cause {
+    ghost numbered = { number };
 
-impl Fault {
-    // The number of the refusal.
-    pub fn number(&self) -> u8
-        ensures { result ≡ number self.now.cause }
-    {
-        match self.cause {
+    fn number(&self) -> u8 {
+        match self {
             Cause::TooLong => 1,
             Cause::Flawed(Flaw::CutShort) => 2,
             Cause::Flawed(Flaw::TextTooLong) => 3,
@@ -42,3 +59,6 @@ impl Fault {
         }
     }
 }
+
+// A refusal of the record layer.
+pub type Fault = Refusal<Cause>;

@@ -6,7 +6,8 @@ use crate::index::Entry;
 use crate::parse::{Passed, open};
 use crate::run::Node;
 
-// Fills in the entries of a run whose first node has the place `top`, and answers the places left below.
+// Fills in the entries of a run whose first node has the place `top`, and answers the places left below. The five stay parameters: a
+// struct with the lent list in it would have to say after each call that the list is still the same.
 #[cycle(filling)]
 pub(crate) fn fill_run(bytes: &[u8], list: &mut [Entry], at: usize, end: usize, top: usize) -> usize
     requires { Fillable bytes.now at end top (length list.old) }
@@ -27,10 +28,12 @@ fn fill_node(bytes: &[u8], list: &mut [Entry], at: usize, end: usize, top: usize
     ensures { (base k : ℕ) (t : List ℕ) (i a : Nodes) → Spelt bytes.now at end (node k t i a) → base + count (node k t i a) ≡ top → NodeFilled list.old list.new base at k t i a top result }
 {
     let head = open(bytes, at);
-    let left = fill_run(bytes, list, head.inside, head.end, top - 1);
-    let inside = if head.inside < head.end { top - 1 } else { 0 };
+    let below = top - 1;
+    let left = fill_run(bytes, list, head.inside, head.end, below);
+    // place 0 is the empty run, by a rule of the project
+    let inside = if head.inside < head.end { below } else { 0 };
     let after = if head.end < end { left } else { 0 };
-    list[top - 1] = Entry {
+    list[below] = Entry {
         node: Node {
             kind: head.kind,
             inside,

@@ -7,7 +7,7 @@ use crate::parse::parse;
 use crate::run::Node;
 
 // An entry of an index: a node, where it begins, and how many bytes it takes in all.
-#[derive(Clone, Copy, PartialEq, Eq, Debug)]
+#[derive(Clone, Copy, Default, PartialEq, Eq, Debug)]
 pub struct Entry {
     pub node: Node,
     pub offset: usize,

@@ -1,10 +1,12 @@
 ghost use Rattle.record.specs.Index.{lowered, shown};
+ghost use Rattle.record.specs.Places.{shown_places};
 
 use crate::index::Entry;
 use crate::limits::MAX_PLACE;
 use crate::run::{Node, Runs};
 
-// A list of entries up to a top, as a run; any values whatever may stand in it. Place k is entry k - 1.
+// A lent list of entries up to a top, as a run; any values whatever may stand in it. Place k is entry k - 1; of a sheet it is line k, where
+// there may be no run, so the two are not one type.
 #[derive(Clone, Copy)]
 pub struct Indexed<'a> {
     pub list: &'a [Entry],
@@ -16,19 +18,17 @@ impl<'a> Runs for Indexed<'a> {
 
     ghost seen = { λ s. shown s.list.now s.top };
 
+    ghost places = { λ s. shown_places s.list.now s.top };
+
     fn top(&self) -> usize {
         self.top.min(self.list.len().min(MAX_PLACE))
     }
 
     fn look(&self, place: usize) -> Option<Node> {
-        if place == 0 || place > self.top() {
+        if place > self.top() {
             return None;
         }
-        let node = self.list[place - 1].node;
-        if node.inside < place && node.after < place {
-            Some(node)
-        } else {
-            None
-        }
+        let entry = self.list.get(place.checked_sub(1)?)?;
+        entry.node.if_lower(place)
     }
 }

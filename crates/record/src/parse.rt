@@ -1,8 +1,7 @@
-ghost use Rattle.std.specs.Prelude.{◌≡◌, ◌+◌, ◌<◌, ◌≤◌, length, MatchResult};
+ghost use Rattle.std.specs.Prelude.{◌+◌, ◌<◌, ◌≤◌, length, MatchResult};
 ghost use Rattle.record.specs.Limits.{max_bytes};
-ghost use Rattle.record.specs.Numbers.{value, between};
 ghost use Rattle.record.specs.Record.{Called, Refused, Faulty};
-ghost use Rattle.record.specs.Parse.{Headed, Opened, Ready, RunParsed, NodeParsed, Recorded};
+ghost use Rattle.record.specs.Parse.{at, Headed, Opened, Ready, RunParsed, NodeParsed, Recorded};
 
 use crate::fault::{Cause, Fault, Flaw};
 use crate::limits::{MAX_BYTES, MAX_LEVELS, MAX_NODES};
@@ -22,111 +21,105 @@ pub struct Passed {
     pub count: usize,
 }
 
-// The number in four bytes, the lowest first.
-fn word(bytes: &[u8], at: usize) -> u32
-    requires { at + 4 ≤ length bytes.now }
-    ensures { result ≡ value (between bytes.now at (at + 4)) }
-{
-    u32::from_le_bytes([bytes[at], bytes[at + 1], bytes[at + 2], bytes[at + 3]])
-}
-
-// The number in two bytes, the lowest first.
-fn half(bytes: &[u8], at: usize) -> u16
-    requires { at + 2 ≤ length bytes.now }
-    ensures { result ≡ value (between bytes.now at (at + 2)) }
-{
-    u16::from_le_bytes([bytes[at], bytes[at + 1]])
-}
-
-// What the bytes at an offset say, as a node's.
+// What the bytes at an offset say, as a node's. Numbers have their lowest byte first.
 pub(crate) fn open(bytes: &[u8], at: usize) -> Head
     requires at_in_bounds { at + 8 ≤ length bytes.now }
     requires bytes_len_bound { length bytes.now ≤ max_bytes }
     ensures { Headed bytes.now at result }
 {
-    let size = word(bytes, at) as usize;
-    let kind = half(bytes, at + 4);
-    let text = half(bytes, at + 6) as usize;
+    let size = u32::from_le_bytes([bytes[at], bytes[at + 1], bytes[at + 2], bytes[at + 3]]);
+    let kind = u16::from_le_bytes([bytes[at + 4], bytes[at + 5]]);
+    let text = u16::from_le_bytes([bytes[at + 6], bytes[at + 7]]);
     Head {
         kind,
-        inside: at + 8 + text,
-        end: at + 4 + size,
+        inside: at + 8 + text as usize,
+        end: at + 4 + size as usize,
     }
 }
 
-// The head of a node that has no flaw, or its first flaw.
-fn sound_head(
-    bytes: &[u8],
+// The rest of a run: the bytes from `at` to `end`, at a level, with so many nodes before them. That it is ready to be parsed is asked at
+// each call: it tells how the node here came to be due, and a field for facts takes no such account.
+#[derive(Clone, Copy)]
+struct Rest<'a> {
+    bytes: &'a [u8],
     at: usize,
     end: usize,
     level: usize,
     before: usize,
-) -> Result<Head, Flaw>
-    requires { Ready bytes.now at end level before }
-    ensures { MatchResult result (λ h. Opened bytes.now at end level before h) (λ f. Called bytes.now at end level before f) }
-{
-    if level > MAX_LEVELS {
-        return Err(Flaw::TooDeep);
-    }
-    if before >= MAX_NODES {
-        return Err(Flaw::TooMany);
-    }
-    if end - at < 8 {
-        return Err(Flaw::CutShort);
-    }
-    let head = open(bytes, at);
-    if head.end < at + 8 || head.end > end {
-        return Err(Flaw::CutShort);
-    }
-    if head.inside > head.end {
-        return Err(Flaw::TextTooLong);
-    }
-    Ok(head)
 }
 
-// Parses the nodes of a run in turn, and answers how many nodes there are by its end.
-#[cycle(parsing)]
-fn parse_run(
-    bytes: &[u8],
-    at: usize,
-    end: usize,
-    level: usize,
-    before: usize,
-) -> Result<usize, Fault>
-    requires { Ready bytes.now at end level before }
-    ensures { MatchResult result (λ n. RunParsed bytes.now at end level before n) (λ e. Faulty bytes.now e) }
-{
-    if at >= end {
-        return Ok(before);
+impl<'a> Rest<'a> {
+    // The head of the node that is next if it has no flaw, or its first flaw.
+    fn sound_head(&self) -> Result<Head, Flaw>
+        requires { at Ready self.now }
+        ensures { MatchResult result (at Opened self.now) (at Called self.now) }
+    {
+        if self.level > MAX_LEVELS {
+            return Err(Flaw::TooDeep);
+        }
+        if self.before >= MAX_NODES {
+            return Err(Flaw::TooMany);
+        }
+        if self.end - self.at < 8 {
+            return Err(Flaw::CutShort);
+        }
+        let head = open(self.bytes, self.at);
+        if head.end < self.at + 8 || head.end > self.end {
+            return Err(Flaw::CutShort);
+        }
+        if head.inside > head.end {
+            return Err(Flaw::TextTooLong);
+        }
+        Ok(head)
     }
-    let passed = parse_node(bytes, at, end, level, before)?;
-    parse_run(bytes, passed.next, end, level, passed.count)
-}
 
-// Parses one node and its inside.
-#[cycle(parsing)]
-fn parse_node(
-    bytes: &[u8],
-    at: usize,
-    end: usize,
-    level: usize,
-    before: usize,
-) -> Result<Passed, Fault>
-    requires ready { Ready bytes.now at end level before }
-    requires at_lt_end { at < end }
-    ensures { MatchResult result (λ p. NodeParsed bytes.now at end level before p) (λ e. Faulty bytes.now e) }
-{
-    match sound_head(bytes, at, end, level, before) {
-        Err(flaw) => Err(Fault {
-            cause: Cause::Flawed(flaw),
-            place: at,
-        }),
-        Ok(head) => {
-            let count = parse_run(bytes, head.inside, head.end, level + 1, before + 1)?;
-            Ok(Passed {
-                next: head.end,
-                count,
-            })
+    // Parses the nodes in turn, and answers how many nodes there are by the end.
+    #[cycle(parsing)]
+    fn parse_run(&self) -> Result<usize, Fault>
+        requires { at Ready self.now }
+        ensures { MatchResult result (at RunParsed self.now) (Faulty self.now.bytes.now) }
+    {
+        if self.at >= self.end {
+            return Ok(self.before);
+        }
+        let passed = self.parse_node()?;
+        let rest = Rest {
+            bytes: self.bytes,
+            at: passed.next,
+            end: self.end,
+            level: self.level,
+            before: passed.count,
+        };
+        rest.parse_run()
+    }
+
+    // Parses the node that is next, and its inside.
+    #[cycle(parsing)]
+    fn parse_node(&self) -> Result<Passed, Fault>
+        requires ready { at Ready self.now }
+        requires at_lt_end { self.now.at < self.now.end }
+        ensures { MatchResult result (at NodeParsed self.now) (Faulty self.now.bytes.now) }
+    {
+        // not by `map_err` and `?`: through its closure the proofs of the two functions that call one another did not close
+        match self.sound_head() {
+            Err(flaw) => Err(Fault {
+                cause: Cause::Flawed(flaw),
+                place: self.at,
+            }),
+            Ok(head) => {
+                let inside = Rest {
+                    bytes: self.bytes,
+                    at: head.inside,
+                    end: head.end,
+                    level: self.level + 1,
+                    before: self.before + 1,
+                };
+                let count = inside.parse_run()?;
+                Ok(Passed {
+                    next: head.end,
+                    count,
+                })
+            }
         }
     }
 }
@@ -141,5 +134,12 @@ pub(crate) fn parse(bytes: &[u8]) -> Result<usize, Fault>
             place: 0,
         });
     }
-    parse_run(bytes, 0, bytes.len(), 1, 0)
+    let whole = Rest {
+        bytes,
+        at: 0,
+        end: bytes.len(),
+        level: 1,
+        before: 0,
+    };
+    whole.parse_run()
 }

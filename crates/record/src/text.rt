@@ -14,6 +14,7 @@ fn seek(bytes: &[u8], offset: usize) -> Option<Head>
 {
     let mut at = 0;
     let mut end = bytes.len();
+    // a step goes into a node or past it, by the length that the node states: no iterator gives the next
     while at < end {
         let head = open(bytes, at);
         if offset == at {
@@ -34,14 +35,10 @@ pub fn text(bytes: &[u8], offset: usize) -> Result<&[u8], Fault>
     ensures { MatchResult result (λ t. Texted bytes.now offset t.now) (λ e. Untexted bytes.now offset e) }
 {
     parse(bytes)?;
-    match seek(bytes, offset) {
-        Some(head) => {
-            let inside = head.inside;
-            Ok(&bytes[offset + 8..inside])
-        }
-        None => Err(Fault {
-            cause: Cause::NoNode,
-            place: NODE_PLACE,
-        }),
-    }
+    let head = seek(bytes, offset).ok_or(Fault {
+        cause: Cause::NoNode,
+        place: NODE_PLACE,
+    })?;
+    let inside = head.inside;
+    Ok(&bytes[offset + 8..inside])
 }

@@ -1,8 +1,9 @@
 -- The calls up to an entry, and the call of that entry.
 use Rattle.std.proofs.Common.{◌≡◌, ℕ, ◌+◌, ◌<◌, Bool, List, [], ◌∷◌, ◌++◌, length, get_or, take, Some, Option, Result, sym, ap, ◌∙◌, subst}
 use Rattle.std.proofs.lemmas.List.{take_more, get_or_default}
-use Rattle.table.specs.declared.class_fault.ClassFault.{ClassFault}
-use Rattle.boxes.specs.Shelf.{Shelf, Box}
+use Rattle.table.specs.ClassFault.{ClassFault}
+use Rattle.boxes.specs.Shelf.{Shelf, Box, SameLists}
+use Rattle.boxes.specs.declared.shelf.Shelf.{Shelf as Lent}
 use Rattle.notation.specs.declared.value.ClassText.{ClassText}
 use Rattle.notation.specs.declared.value.TableText.{TableText}
 use Rattle.notation.specs.declared.value.Entry.{Entry}
@@ -10,6 +11,11 @@ use Rattle.notation.specs.declared.value.Entry.TheVariants.{Pattern, Record}
 use Rattle.replay.specs.Came.{Came, Entered, EntryStops, StoppedAt}
 use Rattle.replay.specs.declared.stop.Stop.{Stop}
 use Rattle.replay.specs.Came.Tells.{admits, files}
+
+-- over two calls the lists stay the same
+pub same_over : {C : Type 0} {old between new : Lent C} → SameLists old between → SameLists between new → SameLists old new
+same_over a b =
+    record { rules = b.rules ∙ a.rules; patterns = b.patterns ∙ a.patterns; records = b.records ∙ a.records; bytes = b.bytes ∙ a.bytes }
 
 module _ {C : Type 0} (kinds : C → ℕ → Bool) (writes : ClassText → Option (Result C ClassFault) → Type 0) (form : TableText) where
   came_next : (es : List Entry) (e : Entry) (box box' : Box) (shelf shelf' : Shelf C)

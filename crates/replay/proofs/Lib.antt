@@ -1,2 +1,3 @@
 mod Coming
 mod Written
+pub mod Stopping

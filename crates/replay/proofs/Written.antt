@@ -1,7 +1,7 @@
 -- Rules written so far, and one more.
 use Rattle.std.proofs.Common.{◌≡◌, ℕ, ◌+◌, ◌<◌, List, [], ◌∷◌, ◌++◌, length, get_or, take, Option, Result, sym, ap, ◌∙◌, subst, subst₂}
 use Rattle.std.proofs.lemmas.List.{take_more}
-use Rattle.table.specs.declared.class_fault.ClassFault.{ClassFault}
+use Rattle.table.specs.ClassFault.{ClassFault}
 use Rattle.table.specs.declared.rule.Rule.{Rule}
 use Rattle.notation.specs.declared.value.ClassText.{ClassText}
 use Rattle.notation.specs.declared.value.RuleText.{RuleText}

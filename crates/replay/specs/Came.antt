@@ -1,6 +1,6 @@
 -- Boxes to which the calls of a box file lead.
 use Rattle.std.specs.Prelude.{◌≡◌, ℕ, Bool, false, List, [], ◌∷◌, ◌++◌, take, Some, None, Err, Option, Result}
-use Rattle.table.specs.declared.class_fault.ClassFault.{ClassFault}
+use Rattle.table.specs.ClassFault.{ClassFault}
 use Rattle.table.specs.Table.{Tab, At}
 use Rattle.boxes.specs.Shelf.{Shelf, Box}
 use Rattle.boxes.specs.declared.fault.Fault.{Fault}

@@ -1,6 +1,6 @@
 -- Why a call of a box file is not made, or is refused.
 use Rattle.std.specs.Prelude.{◌≡◌, ℕ, List, Some, None, Err, Option, Result}
-use Rattle.table.specs.declared.class_fault.ClassFault.{ClassFault}
+use Rattle.table.specs.ClassFault.{ClassFault}
 use Rattle.table.specs.Table.{At}
 use Rattle.boxes.specs.declared.fault.Fault.{Fault}
 use Rattle.notation.specs.declared.value.ClassText.{ClassText}

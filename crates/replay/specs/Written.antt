@@ -2,7 +2,7 @@
 use Rattle.std.specs.Prelude.{◌≡◌, List, [], ◌∷◌, ◌++◌, Some, None, Ok, Option, Result}
 use Rattle.table.specs.declared.mask.Mask.{Mask}
 use Rattle.table.specs.declared.range.Range.{Range}
-use Rattle.table.specs.declared.class_fault.ClassFault.{ClassFault}
+use Rattle.table.specs.ClassFault.{ClassFault}
 use Rattle.table.specs.declared.rule.Rule.{Rule}
 use Rattle.table.specs.declared.rule.Step.{Step}
 use Rattle.table.specs.declared.rule.Step.TheVariants as step

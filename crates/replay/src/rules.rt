@@ -1,7 +1,7 @@
 // Tables as written, as tables of the library.
 ghost use Rattle.std.specs.Prelude.{◌≡◌, IfOk, IfErr, Option as Maybe, Result as Outcome};
 ghost use Rattle.table.specs.Table.{tab};
-ghost use Rattle.table.specs.declared.class_fault.ClassFault.{ClassFault as Fault};
+ghost use Rattle.table.specs.ClassFault.{ClassFault as Fault};
 ghost use Rattle.notation.specs.declared.value.ClassText.{ClassText as Text};
 ghost use Rattle.replay.specs.Stop.{RuleStops, TableStops};
 ghost use Rattle.replay.specs.Written.{WritesMask, WritesRange, RuleWritten, RulesWritten};
@@ -58,20 +58,17 @@ fn rule_of<C: Written>(text: RuleText, number: usize) -> Result<Rule<C>, Stop>
             class,
             inside,
             marks,
-        } => match C::of(class) {
-            None => return Err(Stop::OtherWriting),
-            Some(Err(fault)) => {
-                return Err(Stop::BadClass {
+        } => {
+            let made = C::of(class).ok_or(Stop::OtherWriting)?;
+            Step::Node {
+                class: made.map_err(|fault| Stop::BadClass {
                     rule: number,
                     fault,
-                });
-            }
-            Some(Ok(class)) => Step::Node {
-                class,
+                })?,
                 inside,
                 marks,
-            },
-        },
+            }
+        }
     };
     Ok(Rule {
         from: text.from,

@@ -1,7 +1,8 @@
 ghost use Rattle.std.specs.Prelude.{◌≡◌};
-ghost use Rattle.replay.specs.declared.stop.Stop.TheVariants.{Memory};
+ghost use Rattle.replay.specs.declared.stop.Stop.TheVariants.{Memory, Refused as StopRefused};
 
 use boxes::fault::Fault;
+use boxes::refused::Refused;
 use std::alloc::{AllocError, AllocFailed};
 use table::class_fault::ClassFault;
 
@@ -38,5 +39,13 @@ impl<T: Drop> From<AllocFailed<T>> for Stop {
 
     fn from(_e: AllocFailed<T>) -> Stop {
         Stop::Memory
+    }
+}
+
+impl<B: Drop> From<Refused<B>> for Stop {
+    ghost from_gives = { λ r s. s ≡ StopRefused r.fault };
+
+    fn from(refused: Refused<B>) -> Stop {
+        Stop::Refused(refused.fault)
     }
 }

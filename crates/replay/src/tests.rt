@@ -1,7 +1,7 @@
-use crate::calls::replay;
 use crate::stop::{Stop, Stopped};
 use crate::work::Work;
 use boxes::shelf::{PatternEntry, RecordEntry, Shelf, Spot};
+use boxes::stage::find::Formed;
 use boxes::stage::locate::Query;
 use notation::value::{
     ClassText, Entry, Layout, PatternText, RecordText, RuleText, StepText, TableText,
@@ -69,13 +69,8 @@ fn spots(heap: Global, form: &TableText) -> Result<Result<[Spot; 2], Stopped>, F
         to: 0,
         step: Step::Empty,
     }; 8];
-    let mut patterns = [PatternEntry {
-        first: 0,
-        count: 0,
-        starts: 0,
-        finals: 0,
-    }; 2];
-    let mut records = [RecordEntry { first: 0, count: 0 }; 2];
+    let mut patterns = [PatternEntry::default(); 2];
+    let mut records = [RecordEntry::default(); 2];
     let mut bytes = [0u8; 16];
     let mut shelf: Shelf<Mask> = Shelf {
         rules: &mut rules,
@@ -85,7 +80,7 @@ fn spots(heap: Global, form: &TableText) -> Result<Result<[Spot; 2], Stopped>, F
     };
     let mut work = Work::new(heap)?;
     let entries = entries(heap)?;
-    let laid = match replay(heap, &mut shelf, form, &entries, &mut work) {
+    let laid = match work.replay(&mut shelf, form, &entries) {
         Ok(laid) => laid,
         Err(stopped) => return Ok(Err(stopped)),
     };

@@ -8,13 +8,12 @@ ghost use Rattle.replay.specs.Work.{LastUsed};
 
 use boxes::limits::SCRATCH_NEEDS;
 use examine::line::{Line, LineStep};
+use examine::size::most_lines;
 use record::index::Entry as Place;
 use record::limits::MAX_NODES;
-use record::run::Node;
 use std::alloc::{AllocError, Global};
-use table::limits::{FORM_STATES, PATTERN_STATES};
 
-// A line that examining never writes: there is no state 255.
+// A line that examining never writes: there is no state 255. By the rules for examining it hands back no count of lines, so these tell.
 const UNUSED: Line = Line {
     form: 255,
     first: 255,
@@ -23,33 +22,16 @@ const UNUSED: Line = Line {
     step: LineStep::Stop,
 };
 
-const NO_PLACE: Place = Place {
-    node: Node {
-        kind: 0,
-        inside: 0,
-        after: 0,
-    },
-    offset: 0,
-    size: 0,
-};
-
-// Sheet and helper for examining, index list and scratch for filing and finding, and the state count of the form that is laid.
+// Sheet and helper for examining, index list and scratch for filing and finding, the state count of the form that is laid, and where
+// more memory comes from.
 #[derive(Drop)]
 pub struct Work {
+    pub heap: Global,
     pub sheet: Vec<Line>,
     pub helper: Vec<u32>,
     pub list: Vec<Place>,
     pub scratch: Vec<u64>,
     pub form_states: usize,
-}
-
-// How many lines examining can need for a form and a pattern of so many states; tables of more states are refused.
-pub fn most_lines(forms: usize, states: usize) -> usize
-    ensures { result ≡ most (min forms form_states) (min states pattern_states) + 1 }
-{
-    let forms = forms.min(FORM_STATES as usize);
-    let states = states.min(PATTERN_STATES as usize);
-    3 * forms * states * states + 1
 }
 
 impl Work {
@@ -61,35 +43,34 @@ impl Work {
         ensures helper { IfOk result (λ w. vec_len w.helper ≡ 0) }
     {
         Ok(Work {
+            heap,
             sheet: Vec::new(heap),
             helper: Vec::new(heap),
-            list: vec![in heap; NO_PLACE; MAX_NODES]?,
+            list: vec![in heap; Place::default(); MAX_NODES]?,
             scratch: vec![in heap; 0u64; SCRATCH_NEEDS]?,
+            // no form is laid yet
             form_states: 1,
         })
     }
 
     // Makes room for examining a pattern of so many states.
-    pub(crate) fn prepare(&mut self, heap: Global, states: usize) -> Result<(), AllocError>
+    pub(crate) fn prepare(&mut self, states: usize) -> Result<(), AllocError>
         ensures sheet { OnOk result (vec_len self.new.sheet ≡ most (min self.old.form_states form_states) (min states pattern_states) + 1) }
         ensures helper { OnOk result (vec_len self.new.helper ≡ most (min self.old.form_states form_states) (min states pattern_states) + 1) }
     {
         let lines = most_lines(self.form_states, states);
-        self.sheet = vec![in heap; UNUSED; lines]?;
-        self.helper = vec![in heap; 0u32; lines]?;
+        self.sheet = vec![in self.heap; UNUSED; lines]?;
+        self.helper = vec![in self.heap; 0u32; lines]?;
         Ok(())
     }
 
-    // The last line of the sheet that was written to since room was made, or 0.
+    // The last line of the sheet that was written to since room was made; 0, which is no line, if none was.
     pub fn lines_used(&self) -> usize
         ensures { LastUsed self.now.sheet.items result }
     {
-        let mut used = 0;
-        for (place, line) in self.sheet.iter().enumerate() {
-            if line.form < 255 {
-                used = place;
-            }
-        }
-        used
+        self.sheet
+            .iter()
+            .rposition(|line| line.form < 255)
+            .unwrap_or(0)
     }
 }

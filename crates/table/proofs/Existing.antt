@@ -1,9 +1,10 @@
 -- Every run has a count under every table.
-use Rattle.std.proofs.Common.{◌≡◌, ℕ, zero, suc, ◌+◌, ◌*◌, ◌^◌, ◌<◌, ◌≤◌, max, Bool, true, false, ◌&&◌, ◌||◌, eqb, ◌⊎◌, length, Some, None, Option, sym, refl, ap, ◌∙◌, subst, inl, inr, arith, pow_mono}
-use lib.Bits.{bit_or, or_lt}
-use lib.Count.{leading_top}
-use Rattle.std.proofs.lemmas.Nat.{pow_pos, pow_below}
-use Rattle.std.proofs.lemmas.Bool.{cases_eq, cases_lt, cases_Bool, both_ways}
+use Rattle.std.proofs.Common.{◌≡◌, ℕ, zero, suc, ◌+◌, ◌*◌, ◌^◌, ◌<◌, ◌≤◌, max, min, Bool, true, false, ◌&&◌, ◌||◌, eqb, ◌⊎◌, length, Some, None, Option, sym, refl, ap, ◌∙◌, subst, inl, inr, arith, pow_mono}
+use lib.Bits.{bit_and, bit_or, or_lt}
+use lib.Count.{leading_top, ones}
+use Rattle.std.proofs.Math.Bool.{or-false}
+use Rattle.std.proofs.lemmas.Nat.{le_or_l, pow_pos, pow_below}
+use Rattle.std.proofs.lemmas.Bool.{cases_eq, cases_lt, cases_Bool}
 use Rattle.record.specs.Run.{Run, nil, node}
 use Rattle.table.specs.declared.rule.Rule.{Rule}
 use Rattle.table.specs.Class.{Kind}
@@ -12,14 +13,13 @@ use Rattle.table.specs.Table.{Tab, At}
 use Rattle.table.specs.Reading.{Counts}
 use Rattle.table.specs.Check.{StateCount}
 use Rattle.table.specs.Counting.{Sets, First, ends, slips, enters, Opens, Forks, Pair, Grounded, Base, Settling, Exact, Grows, takes_step, touches_step, slips_step}
-use Rattle.table.specs.Telling.{Tells}
 use Rattle.table.proofs.Bits.{bit_of_or, bit_power, no_bit, below_power, top_bit}
 use Rattle.table.proofs.Rules.{at_some}
 use Rattle.table.proofs.Checking.{NamedBy, named_none, named_more, named_all}
 use Rattle.table.proofs.Outcomes.{highest_of, ends_some}
 use Rattle.table.proofs.Firsts.{Entering, Slipping, Telling, forks_open, end_base, entering_none, entering_passed, entering_taken, entering_all, slipping_none, slipping_passed, slipping_taken, slipping_all}
-use Rattle.table.proofs.Rounds.{pairset, or_le, Sounds, Rounded, sounds_base, sounds_more, settled_all}
-use Rattle.table.proofs.Told.{ToldBelow, told_none, told_passed, told_found, tells_second, tells_all, counted}
+use Rattle.table.proofs.Rounds.{pairset, Sounds, Rounded, sounds_base, sounds_more, settled_all}
+use Rattle.table.proofs.Told.{tells_many, tells_some, counted}
 
 -- every table has a state count
 named_some : {C : Type 0} (T : Tab C) (n : ℕ) → n ≤ length T.rules → (m : ℕ) × Extent (NamedBy T n) m
@@ -57,10 +57,6 @@ pub record PairBelow (n : ℕ) (P : Sets → Type 0) : Type 0 where
 bit_put : (m k j : ℕ) → bit (bit_or m (2 ^ k)) j ≡ (bit m j || eqb k j)
 bit_put m k j = bit_of_or m (2 ^ k) j ∙ ap (λ z. bit m j || z) (bit_power k j)
 
-or_false : (b : Bool) → b ≡ (b || false)
-or_false true = refl
-or_false false = refl
-
 grown : (n q some many : ℕ) (twice : Bool) → q < n → some < 2 ^ n → many < 2 ^ n → PairBelow n (Grows q twice (pairset some many))
 grown n q some many twice h s m =
     elim (cases_Bool (twice || bit some q)) [
@@ -76,7 +72,7 @@ grown n q some many twice h s m =
         many = many;
         some_low = or_lt n some (2 ^ q) s (pow_below q n h);
         many_low = m;
-        holds = record { somes = bit_put some q; manys = λ p. or_false (bit many p) ∙ ap (λ b. bit many p || (b && eqb q p)) (sym e) };
+        holds = record { somes = bit_put some q; manys = λ p. sym (or-false (bit many p)) ∙ ap (λ b. bit many p || (b && eqb q p)) (sym e) };
       }
     ]
 
@@ -213,8 +209,8 @@ module _ {C : Type 0} (kinds : C → ℕ → Bool) (T : Tab C) (n : ℕ) (low : 
       let m' = bit_or many r.many in
       let us = or_lt n some r.some ls r.some_low in
       let um = or_lt n many r.many lm r.many_low in
-      let gs = or_le some r.some in
-      let gm = or_le many r.many in
+      let gs = le_or_l some r.some in
+      let gm = le_or_l many r.many in
       let go = settle base b fuel s' m' us um in
       let more = sounds_more kinds T base some many r.some r.many r.holds sound in
       elim (cases_eq s' some) [
@@ -257,37 +253,13 @@ module _ {C : Type 0} (kinds : C → ℕ → Bool) (T : Tab C) (n : ℕ) (low : 
       let p = settled_from (Some k) i a (node_base k i a) in
       record { some = p.some; many = p.many; some_low = p.some_low; many_low = p.many_low; holds = p.holds (node k v w) refl (x.holds, y.holds) }
 
--- what the sets tell, start state by start state
-tells_some : (starts : ℕ) (S : Sets) (n : ℕ) → ((f : ℕ) × ToldBelow starts S n f) ⊎ Tells starts S 2
-tells_some starts S zero = inl (0, told_none starts S)
-tells_some starts S (suc n) = next (tells_some starts S n)
-  where
-    e : n + 1 ≡ suc n
-    e = omega arith
-
-    next : ((f : ℕ) × ToldBelow starts S n f) ⊎ Tells starts S 2 → ((f : ℕ) × ToldBelow starts S (suc n) f) ⊎ Tells starts S 2
-    next (inr t) = inr t
-    next (inl p) =
-        elim (cases_Bool (bit starts n)) [
-          | inr b ↦ inl (p.0, subst (λ k. ToldBelow starts S k p.0) e (told_passed starts S n p.0 (λ x y. both_ways _ b x) p.1))
-          | inl b ↦ elim (cases_Bool (S.many n)) [
-            | inl m ↦ inr (inl (n, b, m))
-            | inr m ↦ elim (cases_Bool (S.some n)) [
-              | inr s ↦ inl (p.0, subst (λ k. ToldBelow starts S k p.0) e (told_passed starts S n p.0 (λ x y. both_ways _ s y) p.1))
-              | inl s ↦ elim (cases_eq p.0 1) [
-                | inl z ↦ inr (tells_second starts S n p.0 z b s p.1)
-                | inr d ↦ inl (1, subst (λ k. ToldBelow starts S k 1) e (told_found starts S n p.0 d b s (both_ways _ m) p.1))
-              ]
-            ]
-          ]
-        ]
-
 pub some_count : {C : Type 0} (kinds : C → ℕ → Bool) (T : Tab C) (w : Run) → (n : ℕ) × Counts kinds T w n
 some_count kinds T w =
     let c = count_some T in
     let x = exact_some kinds T c.0 (λ i y at. c.1.below y.from (inr (i, y, at, inl refl))) (below_bits T.finals c.0 (λ q b. c.1.below q (inl (inr b)))) w in
     let S = pairset x.some x.many in
-    elim (tells_some T.starts S T.starts) [
-      | inl p ↦ (p.0, counted kinds T w S x.holds p.0 (tells_all T.starts S T.starts p.0 (below_power T.starts) p.1))
-      | inr t ↦ (2, counted kinds T w S x.holds 2 t)
+    let n = min (ones (bit_and T.starts x.some)) 2 in
+    elim (cases_eq (bit_and T.starts x.many) 0) [
+      | inl z ↦ (n, counted kinds T w S x.holds n (tells_some T.starts x.some x.many z n refl))
+      | inr d ↦ (2, counted kinds T w S x.holds 2 (tells_many T.starts x.some x.many d))
     ]

@@ -9,10 +9,10 @@ use Rattle.record.proofs.Places.{run_none, run_some}
 use Rattle.table.specs.Limits.{per_place}
 use Rattle.table.specs.Sets.{bit}
 use Rattle.table.specs.Table.{Tab}
-use Rattle.table.proofs.Bits.{bit_of_and, no_bit, some_bit}
+use Rattle.table.proofs.Bits.{bit_of_and, no_bits, some_bit}
 use Rattle.table.specs.Reading.{stop, skip, take, Fits}
 use Rattle.table.specs.Counting.{Sets, Once, Exact, Settling, Leads}
-use Rattle.table.specs.Scratch.{NoSkips, ExactSome, Fitted, sets_at, Filled}
+use Rattle.table.specs.Scratch.{number_at, NoSkips, ExactSome, Fitted, sets_at, Filled}
 
 module _ {C : Type 0} (kinds : C → ℕ → Bool) (T : Tab C) where
   -- without empty rules a reading of the empty run stops
@@ -51,9 +51,9 @@ module _ {C : Type 0} (kinds : C → ℕ → Bool) (T : Tab C) where
         subst (λ z. ExactSome kinds T z f) (sym (run_some seen lower p n e))
         (λ q. (λ b. (once q).0 ((leads q).0 b), λ o. (leads q).1 ((once q).1 o)))
 
-    pub fitted_more : (xs : List ℕ) (n s : ℕ) → per_place * n < length xs → Fitted kinds T seen xs n
+    fitted_set : (xs : List ℕ) (n s : ℕ) → per_place * n < length xs → Fitted kinds T seen xs n
         → ExactSome kinds T (run_at seen n) (bit s) → Fitted kinds T seen (set xs (per_place * n) s) (n + 1)
-    fitted_more xs n s room fitted exact p h =
+    fitted_set xs n s room fitted exact p h =
         elim (cases_eq p n) [
           | inl e ↦
               let x : get_or (set xs (per_place * n) s) (per_place * n) 0 ≡ s = get_or-set_same xs (per_place * n) s 0 (omega arith) in
@@ -63,6 +63,10 @@ module _ {C : Type 0} (kinds : C → ℕ → Bool) (T : Tab C) where
               let x : get_or (set xs (per_place * n) s) (per_place * p) 0 ≡ get_or xs (per_place * p) 0 = get_or-set_other xs (per_place * n) (per_place * p) s 0 (omega arith) in
               subst (λ z. ExactSome kinds T (run_at seen p) (bit z)) (sym x) (fitted p (omega arith))
         ]
+
+    pub fitted_more : (xs ys : List ℕ) (n s : ℕ) → number_at n 0 < length xs → ys ≡ set xs (number_at n 0) s → Fitted kinds T seen xs n
+        → ExactSome kinds T (run_at seen n) (bit s) → Fitted kinds T seen ys (n + 1)
+    fitted_more xs ys n s room is fitted exact = subst (λ z. Fitted kinds T seen z (n + 1)) (sym is) (fitted_set xs n s room fitted exact)
 
     pub exact_none : (p : ℕ) (i a g : Sets) → seen p ≡ None → Settling kinds T None i a g → Exact kinds T (run_at seen p) g
     exact_none p i a g e s = subst (λ w. Exact kinds T w g) (sym (run_none seen lower p e)) (s nil refl tt)
@@ -78,12 +82,12 @@ module _ {C : Type 0} (kinds : C → ℕ → Bool) (T : Tab C) where
         ))
 
   -- sets that agree tell the same
-  pub exact_agree : (w : Run) (S R : Sets) → S.some ≡ R.some → S.many ≡ R.many → Exact kinds T w S → Exact kinds T w R
+  exact_agree : (w : Run) (S R : Sets) → S.some ≡ R.some → S.many ≡ R.many → Exact kinds T w S → Exact kinds T w R
   exact_agree w S R x y = subst (Exact kinds T w) (λ j. record { some = x j; many = y j })
 
-  pub filled_more : (seen : ℕ → Option Node) (xs : List ℕ) (n s m : ℕ) → per_place * n + 1 < length xs → Filled kinds T seen xs n
+  filled_set : (seen : ℕ → Option Node) (xs : List ℕ) (n s m : ℕ) → per_place * n + 1 < length xs → Filled kinds T seen xs n
       → Exact kinds T (run_at seen n) (record { some = bit s; many = bit m }) → Filled kinds T seen (set (set xs (per_place * n) s) (per_place * n + 1) m) (n + 1)
-  filled_more seen xs n s m room filled exact p h =
+  filled_set seen xs n s m room filled exact p h =
       let a = per_place * n in
       let ys = set (set xs a s) (a + 1) m in
       elim (cases_eq p n) [
@@ -98,6 +102,11 @@ module _ {C : Type 0} (kinds : C → ℕ → Bool) (T : Tab C) where
             exact_agree (run_at seen p) (sets_at xs p) (sets_at ys p) (ap bit (sym x)) (ap bit (sym y)) (filled p (omega arith))
       ]
 
+  pub filled_more : (seen : ℕ → Option Node) (xs ys zs : List ℕ) (n s m : ℕ) → number_at n 1 < length xs → ys ≡ set xs (number_at n 0) s → zs ≡ set ys (number_at n 1) m
+      → Filled kinds T seen xs n → Exact kinds T (run_at seen n) (record { some = bit s; many = bit m }) → Filled kinds T seen zs (n + 1)
+  filled_more seen xs ys zs n s m room is is' filled exact =
+      subst (λ z. Filled kinds T seen z (n + 1)) (sym (is' ∙ ap (λ z. set z (number_at n 1) m) is)) (filled_set seen xs n s m room filled exact)
+
 -- a start state with a reading, by the sets
 pub fits_answered : {C : Type 0} (kinds : C → ℕ → Bool) (T : Tab C) (w : Run) (m : ℕ) → ExactSome kinds T w (bit m)
     → (not (eqb (bit_and T.starts m) 0) ≡ true) ↔ Fits kinds T w
@@ -109,5 +118,5 @@ fits_answered kinds T w m exact = (
       record { state = b.0; reading = o.0; starts = p.0; reads = o.1 },
   λ f.
       let p = and_from _ _ f.starts ((exact f.state).1 (f.reading, f.reads)) in
-      not_from_false _ (ne_eqb _ 0 (λ z. no_bit f.state (ap (λ x. bit x f.state) (sym z) ∙ (bit_of_and T.starts m f.state ∙ p)))),
+      not_from_false _ (ne_eqb _ 0 (λ z. no_bits _ z f.state (bit_of_and T.starts m f.state ∙ p))),
 )

@@ -37,7 +37,7 @@ module _ {C : Type 0} (kinds : C → ℕ → Bool) (T : Tab C) (h i a : Sets) wh
   pub told : (o : Option ℕ) (U : First → Type 0) (S : Sets) → Telling o U S → Told kinds T U o h i a S
   told o U S t = record { somes = t.anys; manys = t.pairs }
 
-  pub telling : (o : Option ℕ) (U : First → Type 0) (S : Sets) → Told kinds T U o h i a S → Telling o U S
+  telling : (o : Option ℕ) (U : First → Type 0) (S : Sets) → Told kinds T U o h i a S → Telling o U S
   telling o U S t = record { anys = t.somes; pairs = t.manys }
 
   -- the empty run: final states

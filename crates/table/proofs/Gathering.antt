@@ -96,9 +96,6 @@ abbrev pub Collected : (ℕ → ℕ → Type 0) → ℕ → (ℕ → Bool) → T
 Collected P n f = (q : ℕ) → (f q ≡ true) ↔ ((r : ℕ) × (r < n) × (P r q))
 
 module _ (P : ℕ → ℕ → Type 0) where
-  pub collected_none : (f : ℕ → Bool) → ((q : ℕ) → f q ≡ true → ⊥) → Collected P 0 f
-  collected_none f no_one q = (λ e. absurd (no_one q e), λ p. absurd (omega (arith, p.1)))
-
   -- rule n gives b
   pub collected_more : (n : ℕ) (b f g : ℕ → Bool) → ((q : ℕ) → (b q ≡ true) ↔ P n q) → ((q : ℕ) → g q ≡ (f q || b q)) → Collected P n f → Collected P (n + 1) g
   collected_more n b f g here grows c q = (

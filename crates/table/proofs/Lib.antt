@@ -20,3 +20,4 @@ pub mod One
 pub mod Existing
 pub mod Meaning
 pub mod Samples
+pub mod Walking

@@ -43,7 +43,7 @@ module _ {C : Type 0} (kinds : C → ℕ → Bool) (T : Tab C) where
     pub inner : Reading
     pub outer : Reading
     pub alive : Alive T some enter state
-    pub core_is : core ρ ≡ take rule inner outer
+    core_is : core ρ ≡ take rule inner outer
     pub reads : Reads kinds T state (node k v w) (take rule inner outer)
 
   reach : (k : ℕ) (v w : Run) (some enter : ℕ → Bool) → ExactSome kinds T (node k v w) some
@@ -68,13 +68,13 @@ module _ {C : Type 0} (kinds : C → ℕ → Bool) (T : Tab C) where
     agree r s t u σ τ x y =
         sym f.core_is ∙ same_core (node k v w) (bit some) (bit enter) ρ only u.0 ((lit.lives u.0).0 u.2) (take r σ τ) (s, t, u.1, x, y)
 
-    pub only_inside : P → Only (bit enter_in) v f.inner
+    only_inside : P → Only (bit enter_in) v f.inner
     only_inside z s σ e x =
         let u = (lit.insides z s).0 e in
         let y = (exact_after u.1).0 u.2.4 in
         take_inside (agree u.0 s u.1 u.2 σ y.0 x y.1)
 
-    pub only_after : Q → Only (bit enter_after) w f.outer
+    only_after : Q → Only (bit enter_after) w f.outer
     only_after z t σ e x =
         let u = (lit.afters z t).0 e in
         let y = (exact_in u.1).0 u.2.3 in

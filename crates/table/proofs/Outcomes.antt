@@ -1,6 +1,7 @@
 -- Every table passes the check in a role or is refused in one way.
-use Rattle.std.proofs.Common.{◌≡◌, ℕ, zero, suc, ◌^◌, ◌<◌, ◌≤◌, max, ◌⊎◌, length, Ok, Err, Result, sym, refl, ap, ◌∙◌, subst, ap₂, inl, inr, pow-suc, arith}
+use Rattle.std.proofs.Common.{◌≡◌, ℕ, zero, suc, ◌<◌, ◌≤◌, max, ◌⊎◌, length, Ok, Err, Result, sym, refl, ap, ◌∙◌, subst, ap₂, inl, inr, arith}
 use lib.Bits.{bit_or}
+use lib.Count.{leading_length}
 use Rattle.std.proofs.lemmas.Bool.{cases_eq, cases_lt, cases_order, cases_Bool, both_ways}
 use Rattle.table.specs.declared.rule.Rule.{Rule}
 use Rattle.table.specs.declared.rule.Step.{Step}
@@ -19,18 +20,13 @@ use Rattle.table.proofs.Checking.{ends_extent, beyond, within}
 use Rattle.table.proofs.Rules.{at_one, at_more, at_some}
 
 -- every set has an extent
-extent_some : (n m : ℕ) → m < 2 ^ n → (k : ℕ) × Extent (Bit m) k
-extent_some zero m h = (0, extent_of m 0 h (omega arith))
-extent_some (suc n) m h =
-    elim (cases_lt m (2 ^ n)) [
-      | inl l ↦ extent_some n m l
-      | inr l ↦ (suc n, extent_of m (suc n) h (let s = pow-suc 2 n in omega arith))
-    ]
+extent_some : (m : ℕ) → (k : ℕ) × Extent (Bit m) k
+extent_some m = let l = leading_length m m (below_power m) in (l.0, extent_of m l.0 l.2 l.3)
 
 pub ends_some : {C : Type 0} (T : Tab C) → (n : ℕ) × Extent (Ends T) n
 ends_some T =
     let m = bit_or T.starts T.finals in
-    let k = extent_some m m (below_power m) in
+    let k = extent_some m in
     (k.0, ends_extent T k.0 k.1)
 
 pub highest_of : {C : Type 0} (f t : ℕ) (s : Step C) → (n : ℕ) × Highest (Names (record { from = f; to = t; step = s })) n

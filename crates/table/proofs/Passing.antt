@@ -29,24 +29,24 @@ module _ (xs : List ℕ) (i a p I A M : ℕ) (ri : per_place * i + 2 < length xs
   other j x y z =
       get_or-set_other two (per_place * p + 1) j M 0 z ∙ (get_or-set_other one (per_place * a + 2) j A 0 y ∙ get_or-set_other xs (per_place * i + 2) j I 0 x)
 
-  pub some_kept : (u : ℕ) → get_or three (per_place * u) 0 ≡ get_or xs (per_place * u) 0
+  some_kept : (u : ℕ) → get_or three (per_place * u) 0 ≡ get_or xs (per_place * u) 0
   some_kept u = other (per_place * u) (λ e. omega arith) (λ e. omega arith) (λ e. omega arith)
 
-  pub marks_kept : (u : ℕ) → (u ≡ p → ⊥) → get_or three (per_place * u + 1) 0 ≡ get_or xs (per_place * u + 1) 0
+  marks_kept : (u : ℕ) → (u ≡ p → ⊥) → get_or three (per_place * u + 1) 0 ≡ get_or xs (per_place * u + 1) 0
   marks_kept u d = other (per_place * u + 1) (λ e. omega arith) (λ e. omega arith) (λ e. d (omega arith))
 
-  pub enter_kept : (u : ℕ) → (u ≡ i → ⊥) → (u ≡ a → ⊥) → get_or three (per_place * u + 2) 0 ≡ get_or xs (per_place * u + 2) 0
+  enter_kept : (u : ℕ) → (u ≡ i → ⊥) → (u ≡ a → ⊥) → get_or three (per_place * u + 2) 0 ≡ get_or xs (per_place * u + 2) 0
   enter_kept u d f = other (per_place * u + 2) (λ e. d (omega arith)) (λ e. f (omega arith)) (λ e. omega arith)
 
-  pub marks_set : get_or three (per_place * p + 1) 0 ≡ M
+  marks_set : get_or three (per_place * p + 1) 0 ≡ M
   marks_set = get_or-set_same two (per_place * p + 1) M 0 (omega (arith, length-set one (per_place * a + 2) A, length-set xs (per_place * i + 2) I))
 
-  pub after_set : get_or three (per_place * a + 2) 0 ≡ A
+  after_set : get_or three (per_place * a + 2) 0 ≡ A
   after_set =
       get_or-set_other two (per_place * p + 1) (per_place * a + 2) M 0 (λ e. omega arith)
       ∙ get_or-set_same one (per_place * a + 2) A 0 (omega (arith, length-set xs (per_place * i + 2) I))
 
-  pub inside_set : (i ≡ a → ⊥) → get_or three (per_place * i + 2) 0 ≡ I
+  inside_set : (i ≡ a → ⊥) → get_or three (per_place * i + 2) 0 ≡ I
   inside_set d =
       get_or-set_other two (per_place * p + 1) (per_place * i + 2) M 0 (λ e. omega arith)
       ∙ (get_or-set_other one (per_place * a + 2) (per_place * i + 2) A 0 (λ e. d (omega arith)) ∙ get_or-set_same xs (per_place * i + 2) I 0 ri)

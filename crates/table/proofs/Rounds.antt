@@ -1,7 +1,7 @@
 -- Rounds of the empty rules, until nothing is new.
-use Rattle.std.proofs.Common.{◌≡◌, ℕ, ◌≤◌, Bool, true, Option, sym, ap, ◌∙◌, subst, inl, inr, arith}
-use lib.Bits.{bit_or, or_add_and, and_le_r}
-use Rattle.std.proofs.lemmas.Bool.{or_cases, or_right}
+use Rattle.std.proofs.Common.{◌≡◌, ℕ, ◌+◌, ◌<◌, ◌≤◌, Bool, true, false, ◌&&◌, eqb, Option, sym, ap, ◌∙◌, subst, inl, inr, arith}
+use lib.Bits.{bit_or}
+use Rattle.std.proofs.lemmas.Bool.{or_cases, or_right, cases_eq, both_ways, and_from, eq-eqb}
 use Rattle.record.specs.Run.{Run}
 use Rattle.table.specs.Table.{Tab}
 use Rattle.table.specs.Sets.{bit}
@@ -10,8 +10,16 @@ use Rattle.table.proofs.Bits.{bit_of_or, no_bit}
 use Rattle.table.proofs.Sound.{Sound, begun, forked, parted}
 use Rattle.table.proofs.Settling.{settled}
 
-pub or_le : (a b : ℕ) → a ≤ bit_or a b
-or_le a b = omega (arith, or_add_and a b, and_le_r a b)
+-- sets that grow, and are not both the same
+pub more_states : (a b p q : ℕ) → (eqb a b && eqb p q) ≡ false → b ≤ a → q ≤ p → b + q < a + p
+more_states a b p q e l m =
+    elim (cases_eq a b) [
+      | inr d ↦ omega arith
+      | inl x ↦ elim (cases_eq p q) [
+        | inr d ↦ omega arith
+        | inl y ↦ absurd (both_ways _ e (and_from _ _ (eq-eqb a b x) (eq-eqb p q y)))
+      ]
+    ]
 
 -- what is or'ed on and changes nothing was there
 pub or_kept : (a b : ℕ) → bit_or a b ≡ a → (q : ℕ) → bit b q ≡ true → bit a q ≡ true

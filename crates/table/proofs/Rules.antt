@@ -1,5 +1,5 @@
 -- A rule number has one rule.
-use Rattle.std.proofs.Common.{◌≡◌, ℕ, zero, suc, ◌+◌, ◌<◌, Bool, List, [], ◌∷◌, length, get_or, sym, refl, ap, ◌∙◌, subst, inl, inr, arith}
+use Rattle.std.proofs.Common.{◌≡◌, ℕ, zero, suc, ◌+◌, ◌<◌, Bool, List, [], ◌∷◌, length, sym, refl, ap, ◌∙◌, subst, inl, inr, arith}
 use Rattle.std.proofs.lemmas.List.{get_or_default}
 use Rattle.std.proofs.lemmas.Bool.{cases_eq}
 use Rattle.table.specs.declared.rule.Rule.{Rule}
@@ -18,10 +18,6 @@ at_more P xs n x at p inv i y h a =
       | inr d ↦ inv i y (omega arith) a
       | inl e ↦ subst P (at_one xs n x y at (subst (λ z. At xs z y) e a)) p
     ]
-
--- what is read at i is element i
-pub at_read : {A : Type 0} (xs : List A) (i : ℕ) (x : A) → i < length xs → x ≡ get_or xs i x → At xs i (get_or xs i x)
-at_read xs i x h e = subst (At xs i) e (h, sym e)
 
 pub at_some : {A : Type 0} (xs : List A) (i : ℕ) → i < length xs → (x : A) × At xs i x
 at_some [] i h = absurd (omega arith)

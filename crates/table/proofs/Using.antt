@@ -16,7 +16,7 @@ use Rattle.table.proofs.Bits.{bit_of_or, bit_of_and}
 use Rattle.table.proofs.Rules.{at_one}
 use Rattle.table.proofs.Rounds.{or_kept}
 
-pub carries_at : {C : Type 0} (xs : List (Rule C)) (n : ℕ) (x : Rule C) → At xs n x → (m : ℕ) → carries xs n m ≡ gives x.step m
+carries_at : {C : Type 0} (xs : List (Rule C)) (n : ℕ) (x : Rule C) → At xs n x → (m : ℕ) → carries xs n m ≡ gives x.step m
 carries_at [] n x at m = absurd (omega (arith, at.0))
 carries_at {C} (y ∷ ys) zero x at m = ap (λ (z : Rule C). gives z.step m) at.1
 carries_at (y ∷ ys) (suc n) x at m = carries_at ys n x (omega (arith, at.0), at.1) m
@@ -93,7 +93,7 @@ module _ {C : Type 0} (kinds : C → ℕ → Bool) (T : Tab C) (k : ℕ) (live i
       subst (λ z. Uses kinds T k live i a n z u) (eqb-true v s x) (subst (λ z. Uses kinds T k live i a n v z) (eqb-true t u y)
       (f, record { class = c; marks = m; rule = at; kind = small; has = q.1 }, l, p.0, q.0))
 
-  pub uses_here : (n s t : ℕ) (x : Rule C) → At T.rules n x → Uses kinds T k live i a n s t
+  uses_here : (n s t : ℕ) (x : Rule C) → At T.rules n x → Uses kinds T k live i a n s t
       → (in_use x ≡ true) × (adds_inside x.step s ≡ true) × (adds_after x.to x.step t ≡ true)
   uses_here n s t x at u =
       let z = at_one T.rules n x _ at u.1.rule in (

@@ -1,5 +1,5 @@
 -- The check of a table as a form or as a pattern, and the state count.
-use Rattle.std.specs.Prelude.{◌≡◌, ℕ, ◌<◌, ◌≤◌, Bool, true, false, ◌⊎◌, length, Option, Result, MatchOption, MatchResult}
+use Rattle.std.specs.Prelude.{◌≡◌, ℕ, ◌<◌, ◌≤◌, Bool, true, false, ◌⊎◌, length, Result, MatchResult}
 use Rattle.table.specs.declared.rule.Rule.{Rule}
 use Rattle.table.specs.declared.rule.Step.{Step}
 use Rattle.table.specs.declared.rule.Step.TheVariants.{Empty, Node}
@@ -86,8 +86,8 @@ abbrev pub Checks : {C : Type 0} → Role → Tab C → Result (Unit {0}) Fault 
 Checks role T r = MatchResult r (λ _. SoundTable role T) (λ e. FaultyTable role T e)
 
 -- what the check of one rule answers
-abbrev pub ChecksRule : {C : Type 0} → Role → Rule C → Option Cause → Type 0
-ChecksRule role x r = MatchOption r (SoundRule role x) (λ c. FaultyRule role x c)
+abbrev pub ChecksRule : {C : Type 0} → Role → Rule C → Result (Unit {0}) Cause → Type 0
+ChecksRule role x r = MatchResult r (λ _. SoundRule role x) (λ c. FaultyRule role x c)
 
 -- every table has one outcome
 pub record OneCheck {C : Type 0} (T : Tab C) : Type 0 where

@@ -1,14 +1,14 @@
 -- The states that readings pass through, and the rules that they use.
-use Rattle.std.specs.Prelude.{◌≡◌, ℕ, ◌+◌, ◌*◌, Bool, true, false, ◌||◌, ◌↔◌, List, Some, Option, ◌==◌, slice_index, slice_set}
+use Rattle.std.specs.Prelude.{◌≡◌, ℕ, Bool, true, false, ◌||◌, ◌↔◌, List, Some, Option, ◌==◌, slice_index, slice_set}
 use Rattle.record.specs.declared.run.Node.{Node}
 use Rattle.table.specs.declared.rule.Rule.{Rule}
 use Rattle.table.specs.declared.rule.Step.{Step}
 use Rattle.table.specs.declared.rule.Step.TheVariants.{Empty, Node as NodeStep}
 use Rattle.table.specs.declared.listing.Used.{Used}
-use Rattle.table.specs.Limits.{per_place}
 use Rattle.table.specs.Sets.{bit, Bit}
 use Rattle.table.specs.Table.{Tab}
 use Rattle.table.specs.Reading.{Skips, Takes}
+use Rattle.table.specs.Scratch.{number_at}
 use Rattle.table.specs.Marks.{gives, carries}
 
 -- the states of `some` to which empty rules lead from those that come in
@@ -46,10 +46,10 @@ pub record Adds {C : Type 0} (x : Rule C) (before after : Used) : Type 0 where
 
 -- the first and the third set of a place
 abbrev pub some_of : List ℕ → ℕ → ℕ → Bool
-some_of xs p = bit (slice_index xs (per_place * p))
+some_of xs p = bit (slice_index xs (number_at p 0))
 
 abbrev pub enter_of : List ℕ → ℕ → ℕ → Bool
-enter_of xs p = bit (slice_index xs (per_place * p + 2))
+enter_of xs p = bit (slice_index xs (number_at p 2))
 
 -- one place is listed: a node there passes states on to its inside and to what follows, and has its marks noted
 pub record Passes {C : Type 0} (kinds : C → ℕ → Bool) (T : Tab C) (p : ℕ) (n : Node) (xs ys : List ℕ) : Type 0 where
@@ -57,7 +57,7 @@ pub record Passes {C : Type 0} (kinds : C → ℕ → Bool) (T : Tab C) (p : ℕ
   pub used : Used
   pub lives : (q : ℕ) → Bit live q ↔ Alive T (some_of xs p) (enter_of xs p) q
   pub uses : Usage kinds T n.kind (bit live) (some_of xs n.inside) (some_of xs n.after) used
-  pub is : ys ≡ slice_set (slice_set (slice_set xs (per_place * n.inside + 2) used.inside) (per_place * n.after + 2) used.after) (per_place * p + 1) used.marks
+  pub is : ys ≡ slice_set (slice_set (slice_set xs (number_at n.inside 2) used.inside) (number_at n.after 2) used.after) (number_at p 1) used.marks
 
 abbrev pub Passed : {C : Type 0} → (C → ℕ → Bool) → Tab C → (ℕ → Option Node) → ℕ → List ℕ → List ℕ → Type 0
 Passed kinds T seen p xs ys = (n : Node) → seen p ≡ Some n → Passes kinds T p n xs ys

@@ -1,5 +1,5 @@
 -- The nodes that a reading marks, and what `marks` answers.
-use Rattle.std.specs.Prelude.{◌≡◌, ℕ, zero, suc, ◌+◌, ◌*◌, Bool, true, false, List, [], ◌∷◌, ◌++◌, Some, None, Option, Result, MatchResult, slice_index}
+use Rattle.std.specs.Prelude.{◌≡◌, ℕ, zero, suc, ◌+◌, Bool, true, false, List, [], ◌∷◌, ◌++◌, Some, None, Option, Result, MatchResult, slice_index}
 use Rattle.record.specs.declared.run.Node.{Node}
 use Rattle.record.specs.Run.{run_at, Spans}
 use Rattle.table.specs.declared.rule.Rule.{Rule}
@@ -7,10 +7,10 @@ use Rattle.table.specs.declared.rule.Step.{Step}
 use Rattle.table.specs.declared.rule.Step.TheVariants.{Empty, Node as NodeStep}
 use Rattle.table.specs.declared.fault.Role.TheVariants.{Pattern}
 use Rattle.table.specs.declared.fault.Fault.{Fault}
-use Rattle.table.specs.Limits.{per_place}
 use Rattle.table.specs.Sets.{bit}
 use Rattle.table.specs.Table.{Tab}
 use Rattle.table.specs.Reading.{Reading, stop, skip, take, Single, Counts}
+use Rattle.table.specs.Scratch.{number_at}
 use Rattle.table.specs.Calls.{Admitted, Refused}
 
 -- a step gives mark m
@@ -42,7 +42,7 @@ picked test b (suc s) = put (test (b + suc s)) (b + suc s) (picked test b s)
 
 -- mark m stands in the second number of a place
 abbrev pub noted : List ℕ → ℕ → ℕ → Bool
-noted xs m p = bit (slice_index xs (per_place * p + 1)) m
+noted xs m p = bit (slice_index xs (number_at p 1)) m
 
 -- for each mark, the places that have it are those of the nodes to which the one reading gives it
 abbrev pub Listed : {C : Type 0} → (C → ℕ → Bool) → Tab C → (ℕ → Option Node) → ℕ → List ℕ → Type 0

@@ -1,8 +1,7 @@
 -- Classes as masks of 64 bits.
 use Rattle.std.specs.Prelude.{◌≡◌, ℕ, Bool, cond, Result, MatchResult, ◌==◌, ◌≢◌}
 use Rattle.table.specs.declared.mask.Mask.{Mask}
-use Rattle.table.specs.declared.class_fault.ClassFault.{ClassFault}
-use Rattle.table.specs.ClassFault.{no_kinds}
+use Rattle.table.specs.ClassFault.{ClassFault, no_kinds}
 use Rattle.table.specs.Sets.{bit}
 
 -- no bit at all stands for kind 0 alone

@@ -1,8 +1,7 @@
 -- Classes as ranges of kinds.
 use Rattle.std.specs.Prelude.{◌≡◌, ℕ, ◌<◌, ◌≤◌, max, Bool, ◌&&◌, Result, MatchResult, nat_le}
 use Rattle.table.specs.declared.range.Range.{Range}
-use Rattle.table.specs.declared.class_fault.ClassFault.{ClassFault}
-use Rattle.table.specs.ClassFault.{no_kinds}
+use Rattle.table.specs.ClassFault.{ClassFault, no_kinds}
 
 -- from the first to the last kind; a first above the last stands for the first alone
 abbrev pub range_kinds : ℕ → ℕ → ℕ → Bool

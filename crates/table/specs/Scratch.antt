@@ -1,7 +1,7 @@
 -- Scratch: three numbers for each place of a run, the states with a reading, those with two that differ, and a third set.
-use Rattle.std.specs.Prelude.{◌≡◌, ℕ, ◌+◌, ◌*◌, ◌<◌, ◌≤◌, Bool, true, ◌↔◌, List, Option, Result, MatchResult, slice_index}
+use Rattle.std.specs.Prelude.{◌≡◌, ℕ, zero, suc, ◌+◌, ◌*◌, ◌<◌, ◌≤◌, Bool, true, ◌↔◌, List, Option, Result, MatchResult, slice_index}
 use Rattle.record.specs.declared.run.Node.{Node}
-use Rattle.record.specs.Run.{Run, Places, run_at}
+use Rattle.record.specs.Run.{Run, run_at}
 use Rattle.table.specs.declared.fault.Role.{Role}
 use Rattle.table.specs.declared.fault.Cause.TheVariants.{ShortBuffer}
 use Rattle.table.specs.declared.fault.Fault.{Fault}
@@ -16,18 +16,22 @@ use Rattle.table.specs.Counting.{Sets, Once, Exact}
 abbrev pub needed : ℕ → ℕ
 needed top = per_place * (top + 1)
 
+-- where number k of a place stands
+abbrev pub number_at : ℕ → ℕ → ℕ
+number_at p zero = per_place * p
+number_at p (suc k) = per_place * p + suc k
+
 -- the scratch does not suffice
 abbrev pub Short : Role → ℕ → ℕ → Fault → Type 0
 Short role top len e = (len < needed top) × (e ≡ refusal role ShortBuffer (needed top))
 
 -- what is known once the scratch suffices
-pub record Roomy (top : ℕ) (seen : ℕ → Option Node) (len n : ℕ) : Type 0 where
+pub record Roomy (top len n : ℕ) : Type 0 where
   pub is : n ≡ top
   pub room : needed top ≤ len
-  pub places : Places top seen
 
-abbrev pub Measures : Role → ℕ → (ℕ → Option Node) → ℕ → Result ℕ Fault → Type 0
-Measures role top seen len r = MatchResult r (λ n. Roomy top seen len n) (λ e. Short role top len e)
+abbrev pub Measures : Role → ℕ → ℕ → Result ℕ Fault → Type 0
+Measures role top len r = MatchResult r (Roomy top len) (Short role top len)
 
 -- the table has no empty rules
 abbrev pub NoSkips : {C : Type 0} → Tab C → Type 0
@@ -39,11 +43,11 @@ ExactSome kinds T w f = (q : ℕ) → (f q ≡ true) ↔ Once kinds T q w
 
 -- the first set of each of the first n places is right
 abbrev pub Fitted : {C : Type 0} → (C → ℕ → Bool) → Tab C → (ℕ → Option Node) → List ℕ → ℕ → Type 0
-Fitted kinds T seen xs n = (p : ℕ) → p < n → ExactSome kinds T (run_at seen p) (bit (slice_index xs (per_place * p)))
+Fitted kinds T seen xs n = (p : ℕ) → p < n → ExactSome kinds T (run_at seen p) (bit (slice_index xs (number_at p 0)))
 
 -- the first two sets of a place
 abbrev pub sets_at : List ℕ → ℕ → Sets
-sets_at xs p = record { some = bit (slice_index xs (per_place * p)); many = bit (slice_index xs (per_place * p + 1)) }
+sets_at xs p = record { some = bit (slice_index xs (number_at p 0)); many = bit (slice_index xs (number_at p 1)) }
 
 -- the first two sets of each of the first n places are right
 abbrev pub Filled : {C : Type 0} → (C → ℕ → Bool) → Tab C → (ℕ → Option Node) → List ℕ → ℕ → Type 0

@@ -1,4 +1,4 @@
-ghost use Rattle.std.specs.Prelude.{◌≡◌, ◌+◌, ◌<◌};
+ghost use Rattle.std.specs.Prelude.{◌≡◌};
 ghost use Rattle.table.specs.Table.{tab};
 ghost use Rattle.table.specs.Check.{limit, is_misplaced, Highest, Names, Checks, ChecksRule, StateCount};
 
@@ -9,51 +9,49 @@ use crate::rule::{Rule, Step};
 use crate::states::extent;
 use crate::table::Table;
 
-// How many states a table in this role may use.
-fn states_of(role: Role) -> u8
-    ensures { result ≡ limit role }
-{
-    match role {
-        Role::Form => FORM_STATES,
-        Role::Pattern => PATTERN_STATES,
+impl Role {
+    // How many states a table in this role may use.
+    fn states(self) -> u8
+        ensures { result ≡ limit self }
+    {
+        match self {
+            Role::Form => FORM_STATES,
+            Role::Pattern => PATTERN_STATES,
+        }
     }
 }
 
-// The highest state that a rule names.
-fn highest<C: Class>(rule: Rule<C>) -> u8
-    ensures { Highest (Names rule) result }
-{
-    let ends = rule.from.max(rule.to);
-    match rule.step {
-        Step::Empty => ends,
-        Step::Node { inside, .. } => ends.max(inside),
+impl<C: Class> Rule<C> {
+    // The highest state that it names.
+    fn highest(&self) -> u8
+        ensures { Highest (Names self.now) result }
+    {
+        let ends = self.from.max(self.to);
+        match self.step {
+            Step::Empty => ends,
+            Step::Node { inside, .. } => ends.max(inside),
+        }
     }
-}
 
-// Whether a step is an empty one, in a form.
-fn misplaced<C: Class>(role: Role, step: Step<C>) -> bool
-    ensures { result ≡ is_misplaced role step }
-{
-    match role {
-        Role::Pattern => false,
-        Role::Form => match step {
-            Step::Empty => true,
-            Step::Node { .. } => false,
-        },
+    // Whether its step is an empty one, in a form.
+    fn is_misplaced(&self, role: Role) -> bool
+        ensures { result ≡ is_misplaced role self.now.step }
+    {
+        matches!((role, self.step), (Role::Form, Step::Empty))
     }
-}
 
-// What is wrong with a rule: first an empty rule in a form, then a state beyond the limit.
-fn rule_flaw<C: Class>(role: Role, rule: Rule<C>) -> Option<Cause>
-    ensures { ChecksRule role rule result }
-{
-    if misplaced(role, rule.step) {
-        return Some(Cause::EmptyRule);
+    // Whether it may stand in a table in a role, and if not, why: an empty rule in a form, or else a state beyond the limit.
+    fn check(&self, role: Role) -> Result<(), Cause>
+        ensures { ChecksRule role self.now result }
+    {
+        if self.is_misplaced(role) {
+            return Err(Cause::EmptyRule);
+        }
+        if self.highest() >= role.states() {
+            return Err(Cause::Bounds);
+        }
+        Ok(())
     }
-    if highest(rule) >= states_of(role) {
-        return Some(Cause::Bounds);
-    }
-    None
 }
 
 // Whether a table may serve in a role, and if not, what is first at fault in it.
@@ -67,16 +65,16 @@ pub fn check<C: Class>(role: Role, table: Table<C>) -> Result<(), Fault>
             place: MAX_RULES,
         });
     }
-    if extent(table.starts | table.finals) > states_of(role) {
+    if extent(table.starts | table.finals) > role.states() {
         return Err(Fault {
             role,
             cause: Cause::Bounds,
             place: SETS_PLACE,
         });
     }
-    for i in 0..table.rules.len() {
-        let rule = table.rules[i];
-        if let Some(cause) = rule_flaw(role, rule) {
+    for (i, rule) in table.rules.iter().enumerate() {
+        // by `if let`: with the closure of `map_err` the proof did not close
+        if let Err(cause) = rule.check(role) {
             return Err(Fault {
                 role,
                 cause,
@@ -93,7 +91,7 @@ pub fn state_count<C: Class>(table: Table<C>) -> usize
 {
     let mut count = extent(table.starts | table.finals) as usize;
     for rule in table.rules {
-        count = count.max(highest(*rule) as usize + 1);
+        count = count.max(rule.highest() as usize + 1);
     }
     count
 }

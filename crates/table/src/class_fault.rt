@@ -1,5 +1,6 @@
-ghost use Rattle.std.specs.Prelude.{◌≡◌};
 ghost use Rattle.table.specs.ClassFault.{class_number};
+
+use record::fault::{Numbered, Refusal};
 
 // Why the class layer refuses: the class would have no kinds.
 #[derive(Clone, Copy, PartialEq, Eq, Debug)]
@@ -7,20 +8,21 @@ pub enum ClassCause {
     NoKinds,
 }
 
-// A refusal of the class layer: why, and where.
-#[derive(Clone, Copy, PartialEq, Eq, Debug)]
-pub struct ClassFault {
-    pub cause: ClassCause,
-    pub place: usize,
-}
+impl Numbered for ClassCause {
+    ghost numbered = { class_number };
 
-impl ClassFault {
-    // The number of the refusal.
-    pub fn number(&self) -> u8
-        ensures { result ≡ class_number self.now.cause }
-    {
-        match self.cause {
+    fn number(&self) -> u8 {
+        match self {
             ClassCause::NoKinds => 17,
         }
     }
 }
+
+// A refusal of the class layer.
+pub type ClassFault = Refusal<ClassCause>;
+
+// The one refusal of the class layer.
+pub(crate) const NO_KINDS: ClassFault = Refusal {
+    cause: ClassCause::NoKinds,
+    place: 0,
+};

@@ -2,6 +2,7 @@
 #![tactic(auto)]
 
 pub mod check;
+mod checked;
 pub mod class;
 pub mod class_fault;
 mod count;
@@ -18,6 +19,7 @@ pub mod readings;
 pub mod rule;
 mod scratch;
 mod settle;
-mod states;
+pub mod states;
 mod steps;
 pub mod table;
+mod walk;

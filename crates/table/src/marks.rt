@@ -2,13 +2,10 @@ ghost use Rattle.std.specs.Prelude.{length};
 ghost use Rattle.table.specs.Table.{tab};
 ghost use Rattle.table.specs.Marks.{MarksAnswer};
 
-use crate::check::check;
 use crate::class::Class;
-use crate::count::count;
 use crate::fault::{Fault, Role};
-use crate::listing::list;
-use crate::scratch::measure;
 use crate::table::Table;
+use crate::walk::Walk;
 use record::run::Runs;
 
 // How many readings a run has under a pattern, as `readings` answers it. After the answer 1, if no node place of the run is named twice,
@@ -20,11 +17,10 @@ pub fn marks<C: Class, R: Runs>(
 ) -> Result<u8, Fault>
     ensures { MarksAnswer C.Class.kinds (tab pattern.entry) (R.Runs.seen run.now) (R.Runs.highest run.now) (length scratch.old) scratch.new result }
 {
-    check(Role::Pattern, pattern)?;
-    let top = measure(Role::Pattern, run, scratch)?;
-    let counted = count(pattern, run, scratch, top);
+    let walk = Walk::new(Role::Pattern, pattern, run, scratch)?;
+    let counted = walk.count(scratch);
     if counted == 1 {
-        list(pattern, run, scratch, top);
+        walk.list(scratch);
     }
     Ok(counted)
 }

@@ -1,7 +1,7 @@
 ghost use Rattle.table.specs.Range.{range_kinds, MakesRange};
 
 use crate::class::Class;
-use crate::class_fault::{ClassCause, ClassFault};
+use crate::class_fault::{ClassFault, NO_KINDS};
 
 // A class as a first and a last kind; a first above the last means the first alone.
 #[derive(Clone, Copy, PartialEq, Eq, Debug)]
@@ -16,10 +16,7 @@ impl Range {
         ensures { MakesRange first last result }
     {
         if first > last {
-            return Err(ClassFault {
-                cause: ClassCause::NoKinds,
-                place: 0,
-            });
+            return Err(NO_KINDS);
         }
         Ok(Range { first, last })
     }
@@ -35,11 +32,7 @@ impl Class for Range {
     fn meet(&self, other: &Range) -> Option<Range> {
         let first = self.first.max(other.first);
         let last = self.first.max(self.last).min(other.first.max(other.last));
-        if first > last {
-            None
-        } else {
-            Some(Range { first, last })
-        }
+        Range::new(first, last).ok()
     }
 
     fn least(&self) -> u16 {

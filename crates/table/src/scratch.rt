@@ -1,16 +1,27 @@
 // Scratch: three numbers for each place of a run.
-ghost use Rattle.std.specs.Prelude.{◌≡◌, ◌+◌, ◌*◌, ◌<◌, length, slice_index, slice_set};
-ghost use Rattle.table.specs.Limits.{per_place};
-ghost use Rattle.table.specs.Scratch.{Measures};
+// They stay one lent list: `marks` promises what it ends as, and `as_chunks_mut` says nothing of that.
+ghost use Rattle.std.specs.Prelude.{◌≡◌, ◌<◌, length, slice_index, slice_set};
+ghost use Rattle.table.specs.Counting.{sets};
+ghost use Rattle.table.specs.Scratch.{number_at, sets_at, Measures};
 
 use crate::counted::Counted;
 use crate::fault::{Cause, Fault, Role};
 use crate::limits::PER_PLACE;
 use record::run::Runs;
 
+// Of the numbers of a place: the states with a reading, those with two that differ, and the states that readings come in by.
+// Once the place is listed, its marks stand in place of the second.
+pub(crate) const SOME: usize = 0;
+
+pub(crate) const MANY: usize = 1;
+
+pub(crate) const MARKS: usize = 1;
+
+pub(crate) const ENTER: usize = 2;
+
 // The top place of a run; refused if the scratch is too short for the run.
 pub(crate) fn measure<R: Runs>(role: Role, run: &R, scratch: &[u64]) -> Result<usize, Fault>
-    ensures { Measures role (R.Runs.highest run.now) (R.Runs.seen run.now) (length scratch.now) result }
+    ensures { Measures role (R.Runs.highest run.now) (length scratch.now) result }
 {
     let top = run.top();
     let needed = PER_PLACE * (top + 1);
@@ -24,45 +35,28 @@ pub(crate) fn measure<R: Runs>(role: Role, run: &R, scratch: &[u64]) -> Result<u
     Ok(top)
 }
 
-// The first set of a place.
-pub(crate) fn some_at(scratch: &[u64], place: usize) -> u64
-    requires { per_place * place < length scratch.now }
-    ensures { result ≡ slice_index scratch.now (per_place * place) }
+// Number K of a place.
+pub(crate) fn number<const K: usize>(scratch: &[u64], place: usize) -> u64
+    requires { number_at place K < length scratch.now }
+    ensures { result ≡ slice_index scratch.now (number_at place K) }
 {
-    scratch[PER_PLACE * place]
+    scratch[PER_PLACE * place + K]
+}
+
+pub(crate) fn set_number<const K: usize>(scratch: &mut [u64], place: usize, value: u64)
+    requires { number_at place K < length scratch.old }
+    ensures { scratch.new ≡ slice_set scratch.old (number_at place K) value }
+{
+    scratch[PER_PLACE * place + K] = value;
 }
 
 // The first two sets of a place.
 pub(crate) fn counted_at(scratch: &[u64], place: usize) -> Counted
-    requires { per_place * place + 1 < length scratch.now }
-    ensures some { result.some ≡ slice_index scratch.now (per_place * place) }
-    ensures many { result.many ≡ slice_index scratch.now (per_place * place + 1) }
+    requires { number_at place MANY < length scratch.now }
+    ensures { sets result ≡ sets_at scratch.now place }
 {
     Counted {
-        some: scratch[PER_PLACE * place],
-        many: scratch[PER_PLACE * place + 1],
+        some: number::<SOME>(scratch, place),
+        many: number::<MANY>(scratch, place),
     }
-}
-
-// The third set of a place.
-pub(crate) fn enter_at(scratch: &[u64], place: usize) -> u64
-    requires { per_place * place + 2 < length scratch.now }
-    ensures { result ≡ slice_index scratch.now (per_place * place + 2) }
-{
-    scratch[PER_PLACE * place + 2]
-}
-
-pub(crate) fn set_enter(scratch: &mut [u64], place: usize, states: u64)
-    requires { per_place * place + 2 < length scratch.old }
-    ensures { scratch.new ≡ slice_set scratch.old (per_place * place + 2) states }
-{
-    scratch[PER_PLACE * place + 2] = states;
-}
-
-// Notes the marks of a place in its second number.
-pub(crate) fn set_marks(scratch: &mut [u64], place: usize, marks: u64)
-    requires { per_place * place + 1 < length scratch.old }
-    ensures { scratch.new ≡ slice_set scratch.old (per_place * place + 1) marks }
-{
-    scratch[PER_PLACE * place + 1] = marks;
 }

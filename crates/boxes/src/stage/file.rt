@@ -1,20 +1,24 @@
-ghost use Rattle.std.specs.Prelude.{◌≡◌, ◌≤◌, true, ◌↔◌, length};
+ghost use Rattle.std.specs.Prelude.{◌≤◌, length};
 ghost use Rattle.record.specs.Index.{IndexedAs};
 ghost use Rattle.table.specs.declared.fault.Role.TheVariants.{Form};
+ghost use Rattle.table.specs.Table.{tab};
 ghost use Rattle.table.specs.Check.{SoundTable};
+ghost use Rattle.boxes.specs.declared.fault.Cause.TheVariants.{NoFit};
+ghost use Rattle.boxes.specs.Fault.{fault};
 ghost use Rattle.boxes.specs.Limits.{scratch_needs};
-ghost use Rattle.boxes.specs.Check.{each};
-ghost use Rattle.boxes.specs.Shelf.{box_of, shelf_of, form_of};
+ghost use Rattle.boxes.specs.Check.{unless, each};
+ghost use Rattle.boxes.specs.Shelf.{shelf_of, world_of, SameLists};
 ghost use Rattle.boxes.specs.Record.{Read};
 ghost use Rattle.boxes.specs.Calls.{file_checks, file_room_checks, Files};
-ghost use Rattle.boxes.specs.Stage.{Checked, answer, box_after};
+ghost use Rattle.boxes.specs.Stage.{Checked, world, answer, box_after};
 
-use crate::fault::{BoxFault, Cause, Fault};
+use crate::fault::{Cause, Fault};
 use crate::limits::MAX_RECORDS;
 use crate::put::put;
 use crate::refused::Refused;
-use crate::shelf::{RecordEntry, Shelf};
-use crate::stage::look::{check_buffers, check_lengths, form_on};
+use crate::shelf::{RecordEntry, Shelf, ShelfList};
+use crate::stage::look::{check_buffers, ensure};
+use crate::stage::on_shelf::BoxOnShelf;
 use crate::stage::{Held, LaidBox};
 use record::index::{Entry, index};
 use record::indexed::Indexed;
@@ -22,70 +26,62 @@ use table::check::check;
 use table::class::Class;
 use table::fault::Role;
 use table::fits::fits;
+use table::table::Table;
 
-// There is room for one more record of this many bytes.
-fn check_room<C: Class>(held: &Held, shelf: &Shelf<C>, count: usize) -> Result<(), Fault>
-    requires { held.now.bytes ≤ length shelf.now.bytes.now }
-    ensures { Checked (each (file_room_checks (box_of held.now) (shelf_of shelf.now) count)) result }
-{
-    let place = if held.records >= MAX_RECORDS || shelf.records.len() <= held.records {
-        2
-    } else if shelf.bytes.len() - held.bytes < count {
-        3
-    } else {
-        return Ok(());
-    };
-    Err(Fault::Boxes(BoxFault {
-        cause: Cause::NoRoom,
-        place,
-    }))
+impl<'a, C: Class> BoxOnShelf<'a, C> {
+    // There is room for one more record of this many bytes.
+    // The entry is asked for before the bytes here, and after the rules for a pattern: so the two are not one function of a list.
+    fn check_record_room(&self, count: usize) -> Result<(), Fault>
+        ensures { Checked (each (file_room_checks (world self.now).box (world self.now).shelf count)) result }
+    {
+        let held = self.held;
+        ensure(
+            held.records < MAX_RECORDS && held.records < self.records.len(),
+            ShelfList::Records.fault(Cause::NoRoom),
+        )?;
+        ensure(
+            count <= self.bytes.len() - held.bytes,
+            ShelfList::Bytes.fault(Cause::NoRoom),
+        )
+    }
 }
 
-// Whether an indexed record fits the form on the shelf.
-fn fits_form<C: Class>(
-    held: &Held,
-    shelf: &Shelf<C>,
+// The indexed record fits the form.
+fn check_fits<C: Class>(
+    form: Table<C>,
     bytes: &[u8],
     list: &[Entry],
     top: usize,
     scratch: &mut [u64],
-) -> bool
-    requires lengths { held.now.rules ≤ length shelf.now.rules.now }
-    requires form { SoundTable Form (form_of (box_of held.now) (shelf_of shelf.now)) }
+) -> Result<(), Fault>
+    requires form { SoundTable Form (tab form) }
     requires room { scratch_needs ≤ length scratch.old }
     requires indexed { IndexedAs bytes.now list.now top }
-    ensures { (result ≡ true) ↔ Read C.Class.kinds (form_of (box_of held.now) (shelf_of shelf.now)) bytes.now }
+    ensures { Checked (unless (Read C.Class.kinds (tab form.entry) bytes.now) (fault NoFit 0)) result }
 {
     let run = Indexed { list, top };
-    match fits(form_on(held, shelf), &run, scratch) {
-        Ok(answer) => answer,
-        Err(_) => false,
-    }
+    // a form that passed the check and a scratch that is long enough are not refused
+    let answer = fits(form, &run, scratch).unwrap_or(false);
+    ensure(answer, Fault::boxes(Cause::NoFit, 0))
 }
 
 // The checks of filing, in their order.
 fn check_file<C: Class>(
-    held: &Held,
+    held: Held,
     shelf: &Shelf<C>,
     bytes: &[u8],
     list: &mut [Entry],
     scratch: &mut [u64],
 ) -> Result<(), Fault>
-    ensures { Checked (each (file_checks C.Class.kinds (record { box = box_of held.now; shelf = shelf_of shelf.now }) bytes.now (length list.old) (length scratch.old))) result }
+    ensures { Checked (each (file_checks C.Class.kinds (world_of held shelf.now) bytes.now (length list.old) (length scratch.old))) result }
 {
-    check_lengths(held, shelf)?;
-    check(Role::Form, form_on(held, shelf))?;
+    let laid = BoxOnShelf::new(held, shelf)?;
+    let form = laid.form();
+    check(Role::Form, form)?;
     check_buffers(Role::Form, list, scratch)?;
     let top = index(bytes, list)?;
-    check_room(held, shelf, bytes.len())?;
-    if fits_form(held, shelf, bytes, list, top, scratch) {
-        Ok(())
-    } else {
-        Err(Fault::Boxes(BoxFault {
-            cause: Cause::NoFit,
-            place: 0,
-        }))
-    }
+    laid.check_record_room(bytes.len())?;
+    check_fits(form, bytes, list, top, scratch)
 }
 
 impl LaidBox {
@@ -97,30 +93,21 @@ impl LaidBox {
         list: &mut [Entry],
         scratch: &mut [u64],
     ) -> Result<LaidBox, Refused<LaidBox>>
-        ensures same_rules { shelf.new.rules.ghost_name ≡ shelf.old.rules.ghost_name }
-        ensures same_patterns { shelf.new.patterns.ghost_name ≡ shelf.old.patterns.ghost_name }
-        ensures same_records { shelf.new.records.ghost_name ≡ shelf.old.records.ghost_name }
-        ensures same_bytes { shelf.new.bytes.ghost_name ≡ shelf.old.bytes.ghost_name }
-        ensures files { Files C.Class.kinds (record { box = box_of self.held; shelf = shelf_of shelf.old }) bytes.now (length list.old) (length scratch.old) (answer result) (record { box = box_after result; shelf = shelf_of shelf.new }) }
+        ensures same_lists { SameLists shelf.old shelf.new }
+        ensures files { Files C.Class.kinds (world_of self.held shelf.old) bytes.now (length list.old) (length scratch.old) (answer result) (record { box = box_after result; shelf = shelf_of shelf.new }) }
     {
-        if let Err(fault) = check_file(&self.held, shelf, bytes, list, scratch) {
+        // by `if let`: the closure of `map_err` takes the box, and with it the proof did not close
+        if let Err(fault) = check_file(self.held, shelf, bytes, list, scratch) {
             return Err(Refused { fault, back: self });
         }
-        let held = self.held;
+        let mut held = self.held;
         put(shelf.bytes, held.bytes, bytes);
         shelf.records[held.records] = RecordEntry {
             first: held.bytes,
             count: bytes.len(),
         };
-        let held = Held {
-            rules: held.rules,
-            patterns: held.patterns,
-            records: held.records + 1,
-            bytes: held.bytes + bytes.len(),
-            form_rules: held.form_rules,
-            starts: held.starts,
-            finals: held.finals,
-        };
+        held.records += 1;
+        held.bytes += bytes.len();
         Ok(LaidBox { held })
     }
 }

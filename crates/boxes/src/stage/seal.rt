@@ -1,7 +1,8 @@
 ghost use Rattle.std.specs.Prelude.{◌≡◌};
 ghost use Rattle.boxes.specs.Shelf.{box_of};
 
-use crate::stage::{LaidBox, SealedBox};
+use crate::stage::find::Formed;
+use crate::stage::{Held, LaidBox, SealedBox};
 
 impl LaidBox {
     // Ends admitting and filing.
@@ -9,5 +10,14 @@ impl LaidBox {
         ensures { box_of result.held ≡ box_of self.held }
     {
         SealedBox { held: self.held }
+    }
+}
+
+// As for a laid box: each stage is a type of its own, by a rule of the project.
+impl Formed for SealedBox {
+    ghost holds = { λ b. b.held };
+
+    fn held(&self) -> Held {
+        self.held
     }
 }

@@ -1,39 +1,30 @@
-use Rattle.std.proofs.Common.{◌*◌, arith, rules}
+use Rattle.std.proofs.Common.{ℕ, ◌<◌, length, refl, arith, rules}
+use Rattle.std.proofs.lemmas.List.{get_or-replicate}
 use Rattle.table.specs.declared.fault.Role.TheVariants.{Form, Pattern}
 use Rattle.table.specs.Table.{tab}
 use Rattle.examine.specs.Search.{Setting, state}
-use Rattle.examine.proofs.Slots.{most_few, times_few}
-use Rattle.examine.proofs.Verdict.{fine_first, verdict_of, lent_verdict, sound_plain, count_few}
+use Rattle.examine.proofs.Slots.{most_few}
+use Rattle.table.proofs.Meaning.{states_counted}
+use Rattle.examine.proofs.Verdict.{fine_first, verdict_of, lent_verdict, sound_plain, room_for}
 use Rattle.examine.proofs.examine.decide.Goals as goal
-
-pub overflow_mul-forms : goal.overflow_mul-forms
-overflow_mul-forms g c = let h = count_few Form (tab c.args.form) c.args.forms c.requires.form c.requires.forms in omega arith
-
-pub overflow_mul-forms-2 : goal.overflow_mul-forms-2
-overflow_mul-forms-2 g c =
-    let h = count_few Form (tab c.args.form) c.args.forms c.requires.form c.requires.forms in
-    let k = count_few Pattern (tab c.args.pattern) c.args.states c.requires.pattern c.requires.states in
-    let m = times_few (3 * c.args.forms) 96 c.args.states (omega arith) k in
-    omega arith
 
 pub search-requires : goal.search-requires
 search-requires g c =
-    let G : Setting _ = record { kinds = g.C.Class.kinds; form = tab c.args.form; pattern = tab c.args.pattern; forms = c.args.forms; states = c.args.states } in
-    let h = count_few Form (tab c.args.form) c.args.forms c.requires.form c.requires.forms in
-    let k = count_few Pattern (tab c.args.pattern) c.args.states c.requires.pattern c.requires.states in
-    let l = c.clear.auto.numbers in
-    let r = c.requires.space in
-    record {
-      fine = fine_first G c.args.sheet.now c.clear.new.numbers
-          (record { forms_few = h; states_few = k; form_states = c.requires.forms.below; pattern_states = c.requires.states.below }) c.requires.room (omega arith) c.clear.ensures;
-    }
+    let G : Setting _ = record { kinds = g.C.Class.kinds; form = tab c.args.form; pattern = tab c.args.pattern; forms = c.state_count.result; states = c.state_count-2.result } in
+    let a = c.state_count.ensures in
+    let b = c.state_count-2.ensures in
+    let r = room_for (tab c.args.form) (tab c.args.pattern) c.state_count.result c.state_count-2.result _ _ c.requires a b in
+    let l = c.fill.ensures.len in
+    fine_first G _ refl
+    (record { forms_few = (states_counted (tab c.args.form)).within Form c.requires.form _ a; states_few = (states_counted (tab c.args.pattern)).within Pattern c.requires.pattern _ b; form_states = a.below; pattern_states = b.below })
+    r.0 (omega arith) (λ i h. let lt : i < length c.args.helper.now = omega arith in rw (c.fill.ensures.after (λ y x. x), get_or-replicate {A = ℕ} _ i 0 0 lt))
 
 pub returns : goal.returns
 returns g c =
-    let G : Setting _ = record { kinds = g.C.Class.kinds; form = tab c.args.form; pattern = tab c.args.pattern; forms = c.args.forms; states = c.args.states } in
-    let h = count_few Form (tab c.args.form) c.args.forms c.requires.form c.requires.forms in
-    let k = count_few Pattern (tab c.args.pattern) c.args.states c.requires.pattern c.requires.states in
-    let f = most_few c.args.forms c.args.states h k in
-    let v = verdict_of G (record { lines = c.args.sheet.now; slots = c.clear.new.numbers; used = 1 }) (state c.search.new.draft) c.search.result (sound_plain (tab c.args.form) c.requires.form) (omega arith) c.search.ensures.went in
-    let n = c.search.ensures.lines in
-    lent_verdict G c.search.new.draft.lines.now _ c.search.result v (search rules)
+    let G : Setting _ = record { kinds = g.C.Class.kinds; form = tab c.args.form; pattern = tab c.args.pattern; forms = c.state_count.result; states = c.state_count-2.result } in
+    let h = (states_counted (tab c.args.form)).within Form c.requires.form c.state_count.result c.state_count.ensures in
+    let k = (states_counted (tab c.args.pattern)).within Pattern c.requires.pattern c.state_count-2.result c.state_count-2.ensures in
+    let f = most_few _ _ h k in
+    let v = verdict_of G _ (state c.search.new.draft) c.search.result (sound_plain (tab c.args.form) c.requires.form) (omega arith) c.search.ensures in
+    let n = v.0.0 in
+    lent_verdict G c.search.new.draft.lines.now _ c.search.result v.1 (search rules)

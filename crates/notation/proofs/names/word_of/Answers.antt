@@ -1,23 +1,20 @@
-use Rattle.std.proofs.Common.{◌≡◌, ℕ, List, sym, subst, rules}
-use Rattle.std.specs.List.{AllByRecursion}
-use Rattle.std.proofs.ByRecursion.{All-more}
-use Rattle.std.proofs.lemmas.List.{take_all}
+use Rattle.std.proofs.Common.{◌≡◌, sym, subst, rules}
+use Rattle.std.proofs.lemmas.Iterator.{first_from_find, YieldsList-from_slice}
+use borrow.Author.Tests.{tests}
 use Rattle.notation.specs.declared.value.Name.{Name}
-use Rattle.notation.specs.Names.{Calls}
+use Rattle.notation.specs.Names.{Calls, Unnamed}
 use Rattle.notation.proofs.Named.{calls_at, unnamed_all}
 use Rattle.notation.proofs.names.word_of.Goals as goal
 
-pub returns-then-name-number : goal.returns-then-name-number
-returns-then-name-number c =
-    subst (λ (k : ℕ). Calls c.args.names.now c.as_bytes.result.now k) c.if-name-number.true
-    (calls_at c.args.names.now c.as_bytes.result.now c.loop-name.name-index c.name-item.result (search rules) c.name-item.is (sym c.as_bytes.ensures.value))
-
-pub loop-name-preserved : goal.loop-name-preserved
-loop-name-preserved c =
-    let P : Name → Type 0 = λ n. n.number ≡ c.args.number → ⊥ in
-    All-more P c.args.names.now c.loop-name.name-index c.name-item.result (search rules) c.loop-name.invariant (subst P c.name-item.is c.if-name-number.false)
+pub returns-in_err-name : goal.returns-in_err-name
+returns-in_err-name c =
+    let found = first_from_find _ _ c.find.result (λ (n : Name). n.number ≡ c.args.number) (λ (n : Name). n.number ≡ c.args.number → ⊥) c.find.ensures.ran (YieldsList-from_slice c.args.names.now cc) (λ x q k. search (rules, tests)) (λ x q k. search (rules, tests)) in
+    let unnamed : Unnamed c.args.names.now c.args.number = unnamed_all _ _ (rw c.in_err-name.was at found) in
+    search rules
 
 pub returns : goal.returns
 returns c =
-    let P : Name → Type 0 = λ n. n.number ≡ c.args.number → ⊥ in
-    unnamed_all c.args.names.now c.args.number (subst (λ (w : List Name). AllByRecursion P w) (take_all c.loop-name.name-index c.args.names.now (search rules)) c.loop-name.invariant)
+    let found = first_from_find _ _ c.find.result (λ (n : Name). n.number ≡ c.args.number) (λ (n : Name). n.number ≡ c.args.number → ⊥) c.find.ensures.ran (YieldsList-from_slice c.args.names.now cc) (λ x q k. search (rules, tests)) (λ x q k. search (rules, tests)) in
+    let some = rw c.in_ok-name.was at found in
+    subst (λ k. Calls c.args.names.now c.as_bytes.result.now k) some.0
+    (calls_at c.args.names.now c.as_bytes.result.now some.1 c.in_ok-name.name.now some.2 (some.3 _) (sym c.as_bytes.ensures.value))

@@ -1,5 +1,5 @@
 use Rattle.std.proofs.Common.{get_or, refl, rules}
-use Rattle.notation.proofs.Digits.{value_step, digits_step, writes_all}
+use Rattle.notation.proofs.Digits.{value_step, digits_step}
 use Rattle.notation.proofs.number.decimal.Goals as goal
 
 pub loop-digit-preserved : goal.loop-digit-preserved
@@ -10,9 +10,3 @@ loop-digit-preserved c =
       value_step word i c.loop-digit.number (get_or word i 0) (search rules) refl (search rules) (search rules) c.loop-digit.invariant.1,
       digits_step word i (get_or word i 0) (search rules) refl (search rules) (search rules) c.loop-digit.invariant.2,
     )
-
-pub returns : goal.returns
-returns c = record {
-  written = writes_all c.args.word.now c.loop-digit.digit-index c.loop-digit.number (search rules) (search rules) c.loop-digit.invariant.1 c.loop-digit.invariant.2;
-  bounded = search rules;
-}

@@ -2,13 +2,13 @@ use Rattle.std.proofs.Common.{rules}
 use Rattle.notation.proofs.Quoted.{spelt_plain, spelt_letter, spelt_hex}
 use Rattle.notation.proofs.quote.first.Goals as goal
 
-pub returns-in_ok-low-in-92 : goal.returns-in_ok-low-in-92
-returns-in_ok-low-in-92 c =
+pub returns-in_ok-byte-in-92 : goal.returns-in_ok-byte-in-92
+returns-in_ok-byte-in-92 c =
     record {
       some = search rules;
       within = search rules;
       spelt =
-          spelt_hex c.args.rest.now c.in_ok-high-in-92.high c.in_ok-low-in-92.low (search rules) (search rules) (search rules) (search rules) (search rules);
+          spelt_hex c.args.rest.now c.in_ok-byte-in-92.byte (search rules) (search rules) (search rules) (search rules);
     }
 
 pub returns-in_ok-byte-in-92-2 : goal.returns-in_ok-byte-in-92-2

@@ -8,8 +8,8 @@ use Rattle.record.proofs.fill.+filling.Goals.{fill_node-then-head, fill_node-els
 pub fill_node-open-head-requires : goal.fill_node-open-head-requires
 fill_node-open-head-requires t c = record { at_in_bounds = (node_fillable c.requires.fillable c.requires.at_lt_end).head_fits; bytes_len_bound = c.requires.fillable.short }
 
-pub fill_node-overflow_sub-top : goal.fill_node-overflow_sub-top
-fill_node-overflow_sub-top t c = (node_fillable c.requires.fillable c.requires.at_lt_end).some
+pub fill_node-overflow_sub-below : goal.fill_node-overflow_sub-below
+fill_node-overflow_sub-below t c = (node_fillable c.requires.fillable c.requires.at_lt_end).some
 
 pub fill_node-fill_run-left-requires : goal.fill_node-fill_run-left-requires
 fill_node-fill_run-left-requires t c =
@@ -19,14 +19,8 @@ fill_node-fill_run-left-requires t c =
     let l = c.requires.at_lt_end in
     (omega arith, w.inner c.open-head.ensures)
 
-pub fill_node-overflow_sub-inside : goal.fill_node-overflow_sub-inside
-fill_node-overflow_sub-inside t c = (node_fillable c.requires.fillable c.requires.at_lt_end).some
-
-pub fill_node-overflow_sub-top-2 : goal.fill_node-overflow_sub-top-2
-fill_node-overflow_sub-top-2 t c = (node_fillable c.requires.fillable c.requires.at_lt_end).some
-
-pub fill_node-bounds-list-top : goal.fill_node-bounds-list-top
-fill_node-bounds-list-top t c =
+pub fill_node-bounds-list-below : goal.fill_node-bounds-list-below
+fill_node-bounds-list-below t c =
     let k = c.fill_run-left.auto.list in
     let l = c.requires.fillable.top_fits in
     let m = (node_fillable c.requires.fillable c.requires.at_lt_end).some in

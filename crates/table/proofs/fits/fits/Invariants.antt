@@ -4,4 +4,4 @@ use Rattle.table.proofs.fits.fits.Given as goal
 
 -- the places so far are right
 abbrev pub invariant-loop-place : goal.invariant-loop-place
-invariant-loop-place g l = Fitted g.C.Class.kinds (tab l.form) (g.R.Runs.seen l.run) l.scratch l.place
+invariant-loop-place g l = Fitted g.C.Class.kinds (tab l.walk.checked.table) (g.R.Runs.seen l.walk.run.now) l.scratch l.place

@@ -1,32 +1,11 @@
-use Rattle.std.proofs.Common.{subst, arith}
-use Rattle.record.specs.Run.{run_at, Spans}
-use Rattle.table.specs.declared.fault.Role.TheVariants.{Pattern}
+use Rattle.std.proofs.Common.{length, Ok}
 use Rattle.table.specs.Table.{tab}
-use Rattle.table.specs.Reading.{Counts}
-use Rattle.table.specs.Marks.{Listed}
-use Rattle.table.proofs.Checking.{sound_bounded}
+use Rattle.table.specs.Marks.{MarksAnswer}
+use Rattle.table.proofs.Walking.{of_walk}
 use Rattle.table.proofs.marks.marks.Goals as goal
-
-pub count-counted-requires : goal.count-counted-requires
-count-counted-requires g c =
-    record { bounded = sound_bounded Pattern (tab c.args.pattern) c.in_ok-check.ensures; roomy = c.in_ok-top.ensures }
-
-pub list-requires : goal.list-requires
-list-requires g c =
-    let r = c.in_ok-top.ensures in
-    record {
-      bounded = sound_bounded Pattern (tab c.args.pattern) c.in_ok-check.ensures;
-      roomy = record { is = r.is; room = omega (arith, r.room, c.count-counted.auto.scratch); places = r.places };
-      filled = c.count-counted.ensures.filled;
-    }
 
 pub returns-then-counted-eq1 : goal.returns-then-counted-eq1
 returns-then-counted-eq1 g c =
-    let K = g.C.Class.kinds in
-    let T = tab c.args.pattern in
-    let seen = g.R.Runs.seen c.args.run.now in
-    let r = c.in_ok-top.ensures in (
-      record { table = c.in_ok-check.ensures; room = r.room },
-      subst (λ p. Counts K T (run_at seen p) c.count-counted.result) r.is c.count-counted.ensures.counts,
-      λ one. subst (λ p. Spans seen 0 p p → Listed K T seen p c.list.new.scratch) r.is c.list.ensures,
-    )
+    let e = c.in_ok-walk.ensures in
+    of_walk (λ t r n. MarksAnswer g.C.Class.kinds (tab t) (g.R.Runs.seen r) n (length c.args.scratch.now) c.list.new.scratch (Ok c.count-counted.result)) g.R.Runs.highest
+    e.0 e.1 c.in_ok-walk.walk.highest (e.2, c.count-counted.ensures.counts, λ one. c.list.ensures)

@@ -1,7 +1,8 @@
-use Rattle.std.proofs.Common.{◌≡◌, ℕ, ◌+◌, List, get_or, set, sym, refl, subst, arith}
+use Rattle.std.proofs.Common.{◌≡◌, ℕ, ap, ◌∙◌, arith}
+use Rattle.examine.specs.declared.fact.Sort.{Sort}
 use Rattle.examine.specs.declared.fact.Fact.{Fact}
-use Rattle.examine.specs.Search.{setting, state, slot, rest, noted, told, Known, On, Found}
-use Rattle.examine.proofs.Claims.{fits, claimed_found, claimed_on, used_few}
+use Rattle.examine.specs.Search.{setting, state, slot, rest, noted, told, line_of}
+use Rattle.examine.proofs.Claims.{fits, went_found, went_on, used_few}
 use Rattle.examine.proofs.product.Product.claim.Goals as goal
 
 pub offset_bounds-draft-top : goal.offset_bounds-draft-top
@@ -9,8 +10,9 @@ offset_bounds-draft-top g c = let h = used_few c.requires.fine in omega arith
 
 pub bounds-draft-top : goal.bounds-draft-top
 bounds-draft-top g c =
-    let h = fits (setting g.C.Class.kinds c.args.self.now) (state c.args.draft.now) c.args.sort c.args.line c.requires.fine c.requires.due
-    (subst (λ z. get_or c.args.draft.now.helper.now z 0 ≡ 0) c.slot-at.ensures.is c.if-draft-at-ne0.false) in
+    let G = setting g.C.Class.kinds c.args.self.now in
+    let new : line_of G (state c.args.draft.now) (told c.args.sort c.args.line) ≡ 0 = cc in
+    let h = fits G (state c.args.draft.now) c.args.sort c.args.line c.requires.fine c.requires.due new in
     let r = c.requires.fine.room in
     omega arith
 
@@ -26,30 +28,21 @@ overflow_add-draft g c = let h = used_few c.requires.fine in omega arith
 pub returns-then-is_double : goal.returns-then-is_double
 returns-then-is_double g c =
     let G = setting g.C.Class.kinds c.args.self.now in
+    let s = state c.args.draft.now in
     let l = c.args.line in
-    let n = c.args.draft.now.used in
     let at : Fact → ℕ = λ x. slot c.args.self.now.forms c.args.self.now.states x in
-    let e : c.note-2.new.helper ≡ noted (noted c.args.draft.now.helper.now (at (told c.args.sort l)) n) (at (told (rest c.args.sort) l)) n = cc in
-    record {
-      went = subst (λ (xs : List ℕ). Found G (record { lines = set c.args.draft.now.lines.now n l; slots = xs; used = n + 1 }) n) (sym e)
-          (claimed_found G (state c.args.draft.now) c.args.sort l c.requires.fine c.requires.due
-          (subst (λ z. get_or c.args.draft.now.helper.now z 0 ≡ 0) c.slot-at.ensures.is c.if-draft-at-ne0.false) (sym c.if-is_double.ensures));
-      lines = refl;
-      helper = refl;
-    }
+    let new : line_of G s (told c.args.sort l) ≡ 0 = cc in
+    let f : c.told-rest.result ≡ told (rest c.args.sort) l = c.told-rest.ensures ∙ ap (λ (x : Sort). told x l) c.rest.ensures in
+    let e : c.note-2.new.helper ≡ noted (noted s.slots (at (told c.args.sort l)) s.used) (at (told (rest c.args.sort) l)) s.used = cc in
+    went_found G s c.args.sort l c.requires.fine c.requires.due new c.note-2.new.helper e cc
 
 pub returns-else-is_double : goal.returns-else-is_double
 returns-else-is_double g c =
     let G = setting g.C.Class.kinds c.args.self.now in
+    let s = state c.args.draft.now in
     let l = c.args.line in
-    let n = c.args.draft.now.used in
     let at : Fact → ℕ = λ x. slot c.args.self.now.forms c.args.self.now.states x in
-    let e : c.note-2.new.helper ≡ noted (noted c.args.draft.now.helper.now (at (told c.args.sort l)) n) (at (told (rest c.args.sort) l)) n = cc in
-    record {
-      went = subst (λ (xs : List ℕ). On G (state c.args.draft.now) (record { lines = set c.args.draft.now.lines.now n l; slots = xs; used = n + 1 })
-          × Known G (record { lines = set c.args.draft.now.lines.now n l; slots = xs; used = n + 1 }) (told c.args.sort l)) (sym e)
-          (claimed_on G (state c.args.draft.now) c.args.sort l c.requires.fine c.requires.due
-          (subst (λ z. get_or c.args.draft.now.helper.now z 0 ≡ 0) c.slot-at.ensures.is c.if-draft-at-ne0.false) (sym c.if-is_double.ensures));
-      lines = refl;
-      helper = refl;
-    }
+    let new : line_of G s (told c.args.sort l) ≡ 0 = cc in
+    let f : c.told-rest.result ≡ told (rest c.args.sort) l = c.told-rest.ensures ∙ ap (λ (x : Sort). told x l) c.rest.ensures in
+    let e : c.note-2.new.helper ≡ noted (noted s.slots (at (told c.args.sort l)) s.used) (at (told (rest c.args.sort) l)) s.used = cc in
+    went_on G s c.args.sort l c.requires.fine c.requires.due new c.note-2.new.helper e cc

@@ -1,49 +1,49 @@
-use Rattle.std.proofs.Common.{sym, refl, ◌∙◌, arith, below_more}
+use Rattle.std.proofs.Common.{sym, ◌∙◌, arith, below_more}
 use Rattle.examine.specs.Search.{setting, state, LedBy}
-use Rattle.examine.proofs.Claims.{on_more, on_none, used_low}
-use Rattle.examine.proofs.Emptying.{used_on, line_same, led_on, led_from, led_past}
+use Rattle.examine.proofs.Claims.{on_more, ready_low}
+use Rattle.examine.proofs.Emptying.{node_leads_not, leads_not, led_on, led_from, led_past}
 use Rattle.examine.proofs.product.Product.empties.Goals as goal
 
-pub loop-r-init : goal.loop-r-init
-loop-r-init g c = (on_none c.requires.fine, λ s h. absurd (omega arith), refl, refl, refl)
+pub offset_bounds-draft-b : goal.offset_bounds-draft-b
+offset_bounds-draft-b g c = let h = ready_low c.requires in omega arith
 
-pub skips_by-requires : goal.skips_by-requires
-skips_by-requires g c =
-    let a = c.loop-r.invariant.0 in
+pub bounds-draft-b : goal.bounds-draft-b
+bounds-draft-b g c = (ready_low c.requires).1
+
+pub loop-i-preserved-in_default : goal.loop-i-preserved-in_default
+loop-i-preserved-in_default g c =
+    let G = setting g.C.Class.kinds c.args.self.now in
     record {
-      fine = a.fine;
-      used = used_on a.grown c.requires.used;
-      line = line_same c.args.b a.grown c.requires.used c.loop-r.invariant.2;
-      rule = (c.loop-r-test.true, sym c.rule-item.is);
+      on = c.loop-i.invariant.on;
+      done = below_more (LedBy G (state c.args.draft.now) (state c.loop-i.draft) c.args.b) c.loop-i.i c.loop-i.invariant.done
+          (node_leads_not G c.args.b c.loop-i.i c.rule-item.result (c.loop-i-test.true, sym c.rule-item.is) c.in_default.ensures);
     }
 
-pub loop-r-preserved : goal.loop-r-preserved
-loop-r-preserved g c =
+pub loop-i-preserved-then-skip-line-2 : goal.loop-i-preserved-then-skip-line-2
+loop-i-preserved-then-skip-line-2 g c =
     let G = setting g.C.Class.kinds c.args.self.now in
-    let s = state c.args.draft.now in
-    let t = state c.skips_by.new.draft in
-    let a = c.loop-r.invariant.0 in
-    let o = c.in_ok-skips_by.ensures.went in (
-      on_more a o.0,
-      below_more (λ r. LedBy G s t c.args.b r) c.loop-r.r
-          (λ r h. led_on G c.args.b r o.0.grown (c.loop-r.invariant.1 r h))
-          (led_from G c.args.b c.loop-r.r c.requires.used.0 a.grown o.1),
-      c.loop-r.invariant.2,
-      c.in_ok-skips_by.ensures.lines ∙ c.loop-r.invariant.3,
-      c.in_ok-skips_by.ensures.helper ∙ c.loop-r.invariant.4,
-    )
+    let is = c.in-Some.ensures in
+    record {
+      on = c.loop-i.invariant.on;
+      done = below_more (LedBy G (state c.args.draft.now) (state c.loop-i.draft) c.args.b) c.loop-i.i c.loop-i.invariant.done
+          (leads_not G (state c.args.draft.now) c.args.b c.requires.fine c.loop-i.i c.rule-item.result (c.loop-i-test.true, sym c.rule-item.is)
+          (λ e. c.if-skip-line.true (is.to ∙ e)) (λ e. c.if-skip-line-2.true (is.to ∙ e)));
+    }
+
+pub loop-i-preserved : goal.loop-i-preserved
+loop-i-preserved g c =
+    let G = setting g.C.Class.kinds c.args.self.now in
+    let a = c.loop-i.invariant.on in
+    let o = c.in_ok-skips.ensures in
+    let d = rw c.in-Some.ensures.number at o.1 in
+    record {
+      on = on_more a o.0;
+      done = below_more (LedBy G (state c.args.draft.now) (state c.skips.new.draft) c.args.b) c.loop-i.i
+          (λ r h. led_on G c.args.b r o.0.grown (c.loop-i.invariant.done r h))
+          (led_from G c.args.b c.loop-i.i c.requires.used.0 a.grown d);
+    }
 
 pub returns : goal.returns
 returns g c =
     let G = setting g.C.Class.kinds c.args.self.now in
-    record {
-      went = (c.loop-r.invariant.0, λ r x y e l k w. c.loop-r.invariant.1 r (let h = led_past G l in omega arith) x y e l k w);
-      lines = c.loop-r.invariant.3;
-      helper = c.loop-r.invariant.4;
-    }
-
-pub offset_bounds-draft-b : goal.offset_bounds-draft-b
-offset_bounds-draft-b g c = let h = used_low c.args.b c.requires.fine c.requires.used.1 in omega arith
-
-pub bounds-draft-b : goal.bounds-draft-b
-bounds-draft-b g c = (used_low c.args.b c.requires.fine c.requires.used.1).1
+    (c.loop-i.invariant.on, λ r x y e l k w. c.loop-i.invariant.done r (let h = led_past G l in omega arith) x y e l k w)

@@ -1,58 +1,28 @@
-use Rattle.std.proofs.Common.{◌≡◌, ◌+◌, ◌*◌, ◌<◌, sym, ap, subst, arith}
-use Rattle.examine.specs.Search.{setting, slot, most}
-use Rattle.examine.proofs.Slots.{slot_low, most_few, form_part, first_part, times_few}
+use Rattle.std.proofs.Common.{◌≡◌, refl, arith}
+use denote.Enum.Declared.{tag_of}
+use Rattle.examine.specs.contracts.fact.Sort.{the_type}
+use Rattle.examine.specs.declared.fact.Sort.{Sort}
+use Rattle.examine.specs.declared.fact.Sort.TheVariants.{Together, Poised, Apart}
+use Rattle.examine.specs.Search.{setting, code}
+use Rattle.examine.proofs.Slots.{slot_low, most_few}
 use Rattle.examine.proofs.product.Product.slot.Goals as goal
 
-pub overflow_mul-first : goal.overflow_mul-first
-overflow_mul-first g c =
-    let G = setting g.C.Class.kinds c.args.self.now in
-    let S = c.args.self.now.forms in
-    let x = c.args.fact in
-    let h : c.code.result * S + x.form < 96 = subst (λ z. z * S + x.form < 96) (sym c.code.ensures) (form_part G x c.requires.low c.requires.bounded.forms_few) in
-    let k = times_few (c.code.result * S + x.form) 96 c.args.self.now.states (omega arith) c.requires.bounded.states_few in
-    omega arith
-
-pub overflow_add-first : goal.overflow_add-first
-overflow_add-first g c =
-    let G = setting g.C.Class.kinds c.args.self.now in
-    let S = c.args.self.now.forms in
-    let Q = c.args.self.now.states in
-    let x = c.args.fact in
-    let h : (c.code.result * S + x.form) * Q + x.first < 6144 =
-    subst (λ z. (z * S + x.form) * Q + x.first < 6144) (sym c.code.ensures) (first_part G x c.requires.low c.requires.bounded.forms_few c.requires.bounded.states_few) in
-    omega arith
+tag_is : (x : Sort) → tag_of the_type x ≡ code x
+tag_is Together = refl
+tag_is Poised = refl
+tag_is Apart = refl
 
 pub overflow_mul-result : goal.overflow_mul-result
 overflow_mul-result g c =
-    let G = setting g.C.Class.kinds c.args.self.now in
-    let S = c.args.self.now.forms in
-    let Q = c.args.self.now.states in
-    let x = c.args.fact in
-    let h : (c.code.result * S + x.form) * Q + x.first < 6144 =
-    subst (λ z. (z * S + x.form) * Q + x.first < 6144) (sym c.code.ensures) (first_part G x c.requires.low c.requires.bounded.forms_few c.requires.bounded.states_few) in
-    let k = times_few ((c.code.result * S + x.form) * Q + x.first) 6144 Q (omega arith) c.requires.bounded.states_few in
-    omega arith
+    let h = slot_low (setting g.C.Class.kinds c.args.self.now) c.args.fact c.requires.low in
+    let k = most_few _ _ c.requires.bounded.forms_few c.requires.bounded.states_few in
+    rw (tag_is c.args.fact.sort) (omega arith)
 
 pub overflow_add-result : goal.overflow_add-result
 overflow_add-result g c =
-    let G = setting g.C.Class.kinds c.args.self.now in
-    let S = c.args.self.now.forms in
-    let Q = c.args.self.now.states in
-    let x = c.args.fact in
-    let h : (c.code.result * S + x.form) * Q + x.first < 6144 =
-    subst (λ z. (z * S + x.form) * Q + x.first < 6144) (sym c.code.ensures) (first_part G x c.requires.low c.requires.bounded.forms_few c.requires.bounded.states_few) in
-    let k = times_few ((c.code.result * S + x.form) * Q + x.first) 6144 Q (omega arith) c.requires.bounded.states_few in
-    omega arith
+    let h = slot_low (setting g.C.Class.kinds c.args.self.now) c.args.fact c.requires.low in
+    let k = most_few _ _ c.requires.bounded.forms_few c.requires.bounded.states_few in
+    rw (tag_is c.args.fact.sort) (omega arith)
 
-pub returns : goal.returns
-returns g c =
-    let G = setting g.C.Class.kinds c.args.self.now in
-    let S = c.args.self.now.forms in
-    let Q = c.args.self.now.states in
-    let x = c.args.fact in
-    let e : ((c.code.result * S + x.form) * Q + x.first) * Q + x.second ≡ slot S Q x = ap (λ z. ((z * S + x.form) * Q + x.first) * Q + x.second) c.code.ensures in
-    record {
-      is = e;
-      low = subst (λ z. z < most S Q) (sym e) (slot_low G x c.requires.low);
-      few = most_few S Q c.requires.bounded.forms_few c.requires.bounded.states_few;
-    }
+pub returns-clause-low : goal.returns-clause-low
+returns-clause-low g c = rw (tag_is c.args.fact.sort) (slot_low (setting g.C.Class.kinds c.args.self.now) c.args.fact c.requires.low)

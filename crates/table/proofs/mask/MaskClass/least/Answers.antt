@@ -1,15 +1,13 @@
-use Rattle.std.proofs.Common.{◌≡◌, sym, ◌∙◌, subst, arith}
-use lib.Count.{count_trailing_zeros}
-use Rattle.table.specs.Sets.{Bit}
-use Rattle.table.specs.Mask.{meant}
-use Rattle.table.proofs.Masks.{meant_some, least_bit, least_low}
+use Rattle.std.proofs.Common.{w64, sym, ap, ◌∙◌, arith}
+use Rattle.std.specs.Int.{trailing_zeros}
+use Rattle.table.specs.Sets.{bit}
+use Rattle.table.proofs.Bits.{least_bit}
+use Rattle.table.proofs.Masks.{meant_some}
 use Rattle.table.proofs.mask.MaskClass.least.Goals as goal
 
 pub returns : goal.returns
 returns c =
-    let e : c.meant_bits.result ≡ meant c.args.self.now.bits = c.meant_bits.ensures in
-    record {
-      member = subst (λ z. Bit z (count_trailing_zeros 64 c.meant_bits.result)) e
-          (least_bit 64 c.meant_bits.result (omega arith) (λ z. meant_some c.args.self.now.bits (sym e ∙ z)));
-      lowest = λ k b. least_low 64 c.meant_bits.result k (subst (λ z. Bit z k) (sym e) b);
-    }
+    let m = c.meant_bits.result in
+    let e = c.meant_bits.ensures in
+    let x = least_bit m (λ z. meant_some c.args.self.now.bits (sym e ∙ z)) (omega arith) in
+    record { member = ap (λ z. bit z (trailing_zeros w64 m)) (sym e) ∙ x.0; lowest = λ k b. x.1 k (ap (λ z. bit z k) e ∙ b) }

@@ -1,5 +1,0 @@
-use Rattle.table.proofs.Bits.{bit_is}
-use Rattle.examine.proofs.states.holds.Goals as goal
-
-pub returns : goal.returns
-returns c = bit_is c.args.set c.args.state

@@ -1,5 +1,0 @@
-use Rattle.notation.specs.Scan.{left}
-use Rattle.notation.proofs.read.read_box.Given as goal
-
-abbrev pub decreases-loop-cursor : goal.decreases-loop-cursor
-decreases-loop-cursor l = left l.source

@@ -1,5 +1,0 @@
-use Rattle.notation.specs.Scan.{rest}
-use Rattle.notation.proofs.rule.mask.Given as goal
-
-abbrev pub decreases-loop-cursor : goal.decreases-loop-cursor
-decreases-loop-cursor l = rest l.cursor
