@@ -19,6 +19,7 @@ use table::table::Table;
 // One node of kind 2 with the text "12".
 const D: [u8; 10] = [6, 0, 0, 0, 2, 0, 2, 0, 0x31, 0x32];
 
+// A node rule. The tests of `cases` have the like, but a program lists no crate of tests.
 fn rule(from: u8, kinds: u64, inside: u8, to: u8, marks: u16) -> Rule<Mask> {
     Rule {
         from,

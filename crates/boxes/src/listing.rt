@@ -49,6 +49,7 @@ impl<'a> Notes<'a> {
         for (below, entry) in list[..self.top].iter().enumerate() {
             if self.has(below + 1) {
                 free -= 1;
+                // by fields, as nothing else makes a spot of an entry
                 out[free] = Spot {
                     offset: entry.offset,
                     size: entry.size,

@@ -13,7 +13,8 @@ pub enum Sort {
     Apart,
 }
 
-// Some run is read from these three states, and this is known of its readings.
+// Some run is read from these three states, and this is known of its readings. They are three fields, as they are of a line, by a rule of
+// the project.
 #[derive(Clone, Copy)]
 pub struct Fact {
     pub sort: Sort,

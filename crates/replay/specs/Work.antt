@@ -1,5 +1,5 @@
 -- How much of a sheet was written to.
-use Rattle.std.specs.Prelude.{ℕ, ◌<◌, List, length}
+use Rattle.std.specs.Prelude.{ℕ, ◌<◌, List, length, Option, MatchOption}
 use Rattle.examine.specs.declared.line.Line.{Line}
 use Rattle.examine.specs.Lines.{line_at}
 
@@ -7,7 +7,6 @@ use Rattle.examine.specs.Lines.{line_at}
 abbrev pub UsedAt : List Line → ℕ → Type 0
 UsedAt lines k = (k < length lines) × ((line_at lines k).form < 255)
 
--- the last line written to, or 0; line 0 stands for nothing
-pub record LastUsed (lines : List Line) (n : ℕ) : Type 0 where
-  pub used : 0 < n → UsedAt lines n
-  pub last : (k : ℕ) → n < k → UsedAt lines k → ⊥
+-- the last line written to, if there is one
+abbrev pub LastUsed : List Line → Option ℕ → Type 0
+LastUsed lines r = MatchOption r ((k : ℕ) → UsedAt lines k → ⊥) (λ n. UsedAt lines n × ((k : ℕ) → n < k → UsedAt lines k → ⊥))

@@ -1,4 +1,5 @@
-// The calls that are written in files.
+// The calls that are written in files. What a call leaves of the shelf is a clause of each: it compares two moments, and a field holds
+// at one.
 ghost use Rattle.std.specs.Prelude.{◌≡◌, [], IfOk, IfErr};
 ghost use Rattle.boxes.specs.Shelf.{box_of, shelf_of, SameLists};
 ghost use Rattle.replay.specs.Came.{Came, Admitted, Filed, Entered, LayRefused, AdmitRefused, FileRefused, EntryStops, StoppedAt};

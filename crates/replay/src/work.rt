@@ -64,13 +64,10 @@ impl Work {
         Ok(())
     }
 
-    // The last line of the sheet that was written to since room was made; 0, which is no line, if none was.
-    pub fn lines_used(&self) -> usize
+    // The last line of the sheet that was written to since room was made, if one was.
+    pub fn lines_used(&self) -> Option<usize>
         ensures { LastUsed self.now.sheet.items result }
     {
-        self.sheet
-            .iter()
-            .rposition(|line| line.form < 255)
-            .unwrap_or(0)
+        self.sheet.iter().rposition(|line| line.form < 255)
     }
 }
