@@ -96,7 +96,7 @@ pub(crate) fn unquote(heap: Global, line: &[u8], from: usize) -> Result<Unquoted
 {
     let mut bytes = Vec::new(heap);
     let mut end = from;
-    // a piece is one to four bytes long; a rest of the line would not tell where the text ends
+    // a piece is one to four bytes long; where the text ends is answered, which a rest of the line tells by its length alone
     while let Some(piece) = first(&line[end..]) {
         bytes.push(piece.byte)?;
         end += piece.size;

@@ -1,5 +1,5 @@
-// Rules and records as a box file has them.
-// Not by `Display`: they write into bytes that a caller goes on with, and contracts say what holds of the bytes added (`Adds`), not one text.
+// Rules and records as a box file has them. Not by `Display`: they write into bytes that a caller goes on with, by `push_named` and
+// `push_quoted`, whose contracts say what holds of the bytes added.
 use crate::names::{push_named, push_number};
 use crate::quote::push_quoted;
 use crate::value::{ClassText, Name, RuleText, StepText, Vocabulary};

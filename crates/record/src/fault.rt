@@ -1,7 +1,8 @@
 ghost use Rattle.std.specs.Prelude.{◌≡◌, ℕ};
 ghost use Rattle.record.specs.Fault.{number};
 
-// Why a layer refuses: each cause has a number. It is told by a `match`, as a cause may hold data, and `as` gives no number of such.
+// Why a layer refuses: each cause has a number. All tell it by a `match`, alike: the record's cause holds data, and `as` gives no number of
+// such.
 pub trait Numbered {
     ghost numbered: { Self → ℕ };
 

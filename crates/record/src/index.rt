@@ -14,7 +14,8 @@ pub struct Entry {
     pub size: usize,
 }
 
-// Fills in an entry for each node of a record, place 1 the last in byte order, and answers how many.
+// Fills in an entry for each node of a record, place 1 the last in byte order, and answers how many. The list is lent, and refused by a
+// number if it is too short.
 pub fn index(bytes: &[u8], list: &mut [Entry]) -> Result<usize, Fault>
     ensures { Indexes bytes.now list.old list.new result }
 {

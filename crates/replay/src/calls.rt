@@ -98,7 +98,7 @@ impl Work {
         let mut laid = self
             .lay(shelf, form)
             .map_err(|stop| Stopped { entry: None, stop })?;
-        // by `match`: the closure of `map_err` captures the number, which the invariant names, and the proof did not close
+        // by `match`: the closure of `map_err` captures the number, which the loop's invariant (in proofs/) names, and the proof did not close
         for (number, entry) in entries.iter().enumerate() {
             laid = match self.enter(laid, shelf, entry) {
                 Ok(laid) => laid,
