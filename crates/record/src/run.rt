@@ -2,8 +2,8 @@ ghost use Rattle.std.specs.Prelude.{◌≡◌, ℕ, Option as Maybe};
 ghost use Rattle.record.specs.declared.run.Node.{Node as Seen};
 ghost use Rattle.record.specs.Run.{Places, if_lower};
 
-// What a place shows: a node's kind, the place of its inside and the place of what follows it. Places and no boxes, as runs stand in lent
-// lists, by a rule of the project.
+// What a place shows: a node's kind, the place of its inside and the place of what follows it. They are places and no pointers, as runs
+// stand in lent lists, by a rule of the project.
 #[derive(Clone, Copy, Default, PartialEq, Eq, Debug)]
 pub struct Node {
     pub kind: u16,

@@ -48,7 +48,7 @@ impl Work {
             helper: Vec::new(heap),
             list: vec![in heap; Place::default(); MAX_NODES]?,
             scratch: vec![in heap; 0u64; SCRATCH_NEEDS]?,
-            // no form is laid yet
+            // until a form is laid, which sets it
             form_states: 1,
         })
     }
