@@ -21,12 +21,12 @@ use Rattle.examine.specs.Facts.{Says, Makes}
 use Rattle.examine.specs.Facts.Makes.{plain, parted, within, beyond}
 use Rattle.examine.specs.Lines.{line_at}
 use Rattle.examine.specs.Lines.Spells.{takes as spells_takes}
-use Rattle.examine.specs.Search.{Setting, State, Low, line_of, Known, Fine, Grown, Due}
+use Rattle.examine.specs.Search.{Setting, State, Low, line_of, Known, Fine, Used, Grown, Shows, Due}
 use Rattle.examine.specs.Turns.{state_on, paired, pairs, Armed, Unarmed, inside_fact, after_fact, whole_fact, Taken, Met, Made, Crossed}
 use Rattle.table.proofs.Rules.{at_one}
 use Rattle.examine.proofs.Spelling.{spells_lasts}
 use Rattle.examine.proofs.Claims.{known_on}
-use Rattle.examine.proofs.Emptying.{line_on, shown_by, found_by}
+use Rattle.examine.proofs.Emptying.{line_on, shown_by}
 
 -- what the readings of a node say, from what those of its parts say
 node_says : {r₁ r₂ p q : ℕ} {a b c : Sort} → Makes r₁ r₂ p q a b c → (ρ₁ ρ₂ σ₁ σ₂ : Reading) → Says a ρ₁ ρ₂ → Says b σ₁ σ₂ → Says c (take r₁ ρ₁ σ₁) (take r₂ ρ₂ σ₂)
@@ -94,7 +94,7 @@ module _ {C : Type 0} (G : Setting C) where
 
   -- two facts make a line
   pub join_due : {s : State} → Fine G s → (u : Trio) → Taken G u → {a b c : Sort} → Makes u.first.rule u.second.rule u.first.from u.second.from a b c
-      → (i j : ℕ) → 0 < i → line_of G s (inside_fact a u) ≡ i → 0 < j → line_of G s (after_fact b u) ≡ j
+      → (i j : ℕ) → Used s i → Used s j → Shows (line_at s.lines) (inside_fact a u) i → Shows (line_at s.lines) (after_fact b u) j
       → Due G s c (record {
         form = u.form.from;
         first = u.first.from;
@@ -102,13 +102,7 @@ module _ {C : Type 0} (G : Setting C) where
         run = Some (record { kind = u.kind; inside = i; after = j });
         step = Node u.form.rule u.first.rule u.second.rule;
       })
-  join_due {s} fine u t {a} {b} {c} makes i j zi ei zj ej =
-      let x = found_by G fine (inside_fact a u) (inside_low fine u t a) i zi ei in
-      let y = found_by G fine (after_fact b u) (after_low fine u t b) j zj ej in
-      let ui = x.0 in
-      let uj = y.0 in
-      let si = x.1 in
-      let sj = y.1 in
+  join_due {s} fine u t {a} {b} {c} makes i j ui uj si sj =
       record {
         low = whole_low fine u t c;
         follows = record {

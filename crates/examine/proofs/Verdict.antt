@@ -1,5 +1,5 @@
 -- What a search that is over says.
-use Rattle.std.proofs.Common.{◌≡◌, ℕ, zero, suc, ◌+◌, ◌<◌, ◌≤◌, Bool, true, not, ◌&&◌, ◌||◌, eqb, List, length, get_or, Some, None, Ok, Err, Option, Result, sym, refl, ap, ◌∙◌, subst, arith, MatchResult}
+use Rattle.std.proofs.Common.{◌≡◌, ℕ, zero, suc, ◌+◌, ◌<◌, ◌≤◌, Bool, true, not, ◌&&◌, ◌||◌, eqb, List, length, min, get_or, Some, None, Ok, Err, Option, Result, sym, refl, ap, ap₂, ◌∙◌, subst, arith, MatchResult}
 use native.Mathlib.Decide.{ℕ_discrete}
 use Rattle.std.proofs.lemmas.Bool.{and_parts, and_from, eq-eqb, ne_eqb, true≢false}
 use Rattle.record.specs.declared.run.Node.{Node as Seen}
@@ -7,7 +7,8 @@ use Rattle.record.specs.Run.{run_at}
 use Rattle.table.proofs.Meaning.{states_counted}
 use Rattle.table.specs.Sets.{bit, Bit}
 use Rattle.table.specs.Table.{Tab}
-use Rattle.table.specs.declared.fault.Role.TheVariants.{Form}
+use Rattle.table.specs.declared.fault.Role.TheVariants.{Form, Pattern}
+use Rattle.table.specs.Limits.{form_states, pattern_states}
 use Rattle.table.specs.Check.{SoundTable, StateCount}
 use Rattle.table.specs.Reading.{Reading, Reads, Whole, Twofold}
 use Rattle.examine.specs.declared.fact.Sort.{Sort}
@@ -21,7 +22,7 @@ use Rattle.examine.specs.Facts.{together, apart, Says, Closed, Plain}
 use Rattle.examine.specs.Lines.{line_at, Follows, Good}
 use Rattle.examine.specs.Sheet.{lower_only, lowered, shown}
 use Rattle.examine.specs.Search.{Setting, State, Went, slot, most, is_apart, Shows, Bounded, Known, Fine, SameLists, Found}
-use Rattle.examine.specs.Examine.{Examinable, run_of, Shown}
+use Rattle.examine.specs.Examine.{Needs, Examinable, run_of, Shown}
 use Rattle.examine.proofs.Complete.{together as together_known, apart as apart_known}
 use Rattle.examine.proofs.Spelling.{spells_read}
 use Rattle.examine.specs.Places.{shown_lower}
@@ -199,3 +200,13 @@ room_for F P m n lines numbers x a b =
     let r = x.room in
     let s = x.space in
     (omega arith, omega arith)
+
+-- tables that pass the check have no more states than their role allows, so their counts say how long the lists have to be
+pub needs_counted : {C : Type 0} (F P : Tab C) (m n needed : ℕ) → SoundTable Form F → SoundTable Pattern P → StateCount F m → StateCount P n
+    → needed ≡ most (min m form_states) (min n pattern_states) + 1 → Needs F P needed
+needs_counted F P m n needed f p a b e =
+    let few = (states_counted F).within Form f m a in
+    let many = (states_counted P).within Pattern p n b in
+    let x : min m form_states ≡ m = omega arith in
+    let y : min n pattern_states ≡ n = omega arith in
+    record { forms = m; states = n; forms_are = a; states_are = b; is = e ∙ ap₂ (λ x y. most x y + 1) x y }

@@ -1,6 +1,7 @@
 ghost use Rattle.std.specs.Prelude.{◌≡◌, length, MatchResult};
 ghost use Rattle.table.specs.Fault.{refusal};
 ghost use Rattle.table.specs.Table.{tab};
+ghost use Rattle.table.specs.Check.{StateCount};
 ghost use Rattle.table.specs.Reading.{Twofold};
 ghost use Rattle.table.specs.declared.fault.Role.TheVariants.{Pattern};
 ghost use Rattle.table.specs.declared.fault.Cause.TheVariants.{Double};
@@ -8,7 +9,7 @@ ghost use Rattle.examine.specs.Examine.{Examinable, Examines, Shown};
 
 use crate::line::Line;
 use crate::product::{DoubleAt, Draft, Product};
-use crate::size::lines_needed;
+use crate::size::most_lines;
 use table::check::{check, state_count};
 use table::class::Class;
 use table::fault::{Cause, Fault, Role};
@@ -26,24 +27,20 @@ impl From<DoubleAt> for Fault {
     }
 }
 
-// Whether no run is twofold under two tables that passed the check; else the line of the sheet that shows one that is.
+// Whether no run is twofold under two tables that passed the check; else the line of the sheet that shows one that is. Their states come
+// counted, as their number says how long the lists have to be.
 fn decide<C: Class>(
-    form: Table<C>,
-    pattern: Table<C>,
+    product: Product<C>,
     sheet: &mut [Line],
     helper: &mut [u32],
 ) -> Result<(), DoubleAt>
-    requires { Examinable (tab form) (tab pattern) (length sheet.old) (length helper.old) }
-    ensures { MatchResult result (λ _. Twofold C.Class.kinds (tab form.entry) (tab pattern.entry) → ⊥)
-        (λ d. Twofold C.Class.kinds (tab form.entry) (tab pattern.entry) × Shown C.Class.kinds (tab form.entry) (tab pattern.entry) sheet.new d.top) }
+    requires tables { Examinable (tab product.form) (tab product.pattern) (length sheet.old) (length helper.old) }
+    requires forms { StateCount (tab product.form) product.forms }
+    requires states { StateCount (tab product.pattern) product.states }
+    ensures { MatchResult result (λ _. Twofold C.Class.kinds (tab product.entry.form) (tab product.entry.pattern) → ⊥)
+        (λ d. Twofold C.Class.kinds (tab product.entry.form) (tab product.entry.pattern) × Shown C.Class.kinds (tab product.entry.form) (tab product.entry.pattern) sheet.new d.top) }
 {
     helper.fill(0);
-    let product = Product {
-        form,
-        pattern,
-        forms: state_count(form),
-        states: state_count(pattern),
-    };
     let mut draft = Draft {
         lines: sheet,
         helper,
@@ -65,7 +62,13 @@ pub fn examine<C: Class>(
 {
     check(Role::Form, form)?;
     check(Role::Pattern, pattern)?;
-    let needed = lines_needed(form, pattern);
+    let product = Product {
+        form,
+        pattern,
+        forms: state_count(form),
+        states: state_count(pattern),
+    };
+    let needed = most_lines(product.forms, product.states);
     if sheet.len() < needed || helper.len() < needed {
         return Err(Fault {
             role: Role::Pattern,
@@ -73,6 +76,6 @@ pub fn examine<C: Class>(
             place: needed,
         });
     }
-    decide(form, pattern, sheet, &mut helper[..needed])?;
+    decide(product, sheet, &mut helper[..needed])?;
     Ok(())
 }

@@ -1,5 +1,4 @@
 ghost use Rattle.examine.specs.Sheet.{lowered, shown};
-ghost use Rattle.examine.specs.Places.{shown_places};
 
 use crate::line::Line;
 use record::limits::MAX_PLACE;
@@ -17,8 +16,6 @@ impl<'a> Runs for Sheet<'a> {
     ghost highest = { λ s. lowered s.lines.now s.top };
 
     ghost seen = { λ s. shown s.lines.now s.top };
-
-    ghost places = { λ s. shown_places s.lines.now s.top };
 
     fn top(&self) -> usize {
         self.top

@@ -123,7 +123,9 @@ fn first_word(cursor: &mut Cursor) -> Result<Keyword, What> {
 }
 
 // The names that stand before the form, and the line where the form begins, if there is one.
-fn names(source: &mut Source, vocabulary: &mut Vocabulary) -> Result<Option<usize>, Complaint> {
+fn names(source: &mut Source, vocabulary: &mut Vocabulary) -> Result<Option<usize>, Complaint>
+    ensures { ReadOn source.old source.new }
+{
     while let Some(mut cursor) = source.next() {
         match cursor.read(|line| first_word(line))? {
             Keyword::Kind => cursor.read(|line| push_name(line, &mut vocabulary.kinds, 65_535))?,

@@ -1,5 +1,4 @@
 ghost use Rattle.record.specs.Index.{lowered, shown};
-ghost use Rattle.record.specs.Places.{shown_places};
 
 use crate::index::Entry;
 use crate::limits::MAX_PLACE;
@@ -17,8 +16,6 @@ impl<'a> Runs for Indexed<'a> {
     ghost highest = { λ s. lowered s.list.now s.top };
 
     ghost seen = { λ s. shown s.list.now s.top };
-
-    ghost places = { λ s. shown_places s.list.now s.top };
 
     fn top(&self) -> usize {
         self.top.min(self.list.len().min(MAX_PLACE))

@@ -79,18 +79,13 @@ impl<'a> Rest<'a> {
         requires { at Ready self.now }
         ensures { MatchResult result (at RunParsed self.now) (Faulty self.now.bytes.now) }
     {
-        if self.at >= self.end {
-            return Ok(self.before);
+        let mut rest = *self;
+        while rest.at < rest.end {
+            let passed = rest.parse_node()?;
+            rest.at = passed.next;
+            rest.before = passed.count;
         }
-        let passed = self.parse_node()?;
-        let rest = Rest {
-            bytes: self.bytes,
-            at: passed.next,
-            end: self.end,
-            level: self.level,
-            before: passed.count,
-        };
-        rest.parse_run()
+        Ok(rest.before)
     }
 
     // Parses the node that is next, and its inside.

@@ -31,14 +31,13 @@ pub trait Runs {
 
     ghost seen: { Self → ℕ → Maybe Seen };
 
-    // The place whose run is the whole.
+    // The place whose run is the whole. Every implementation owes here what holds of its places: by a law it would owe that of every value
+    // of the logic, and not only of those that a program holds.
     fn top(&self) -> usize
-        ensures { result ≡ highest self.now };
+        ensures is { result ≡ highest self.now }
+        ensures places { Places (highest self.now) (seen self.now) };
 
     // The node at a place, if there is one.
     fn look(&self, place: usize) -> Option<Node>
         ensures { result ≡ seen self.now place };
-
-    // What every implementation owes of its places.
-    ghost places: { (s : Self) → Places (highest s) (seen s) };
 }

@@ -41,6 +41,10 @@ below_power (suc m) = let l = below_power m in let s = pow-suc 2 m in omega arit
 pub bit_above : (m n q : ℕ) → m < 2 ^ n → n ≤ q → bit m q ≡ false
 bit_above m n q h l = ap (λ z. eqb z 1) (bit_at_above m n q h l)
 
+-- below 64 a shift that goes round there is none
+pub bit_modulo : (m q : ℕ) → q < 64 → bit m (q % 64) ≡ bit m q
+bit_modulo m q h = ap (bit m) (omega arith)
+
 pub no_bit_from : (m n q : ℕ) → m < 2 ^ n → n ≤ q → Bit m q → ⊥
 no_bit_from m n q h l e = true≢false (sym e ∙ bit_above m n q h l)
 

@@ -1,6 +1,7 @@
 // Scratch: three numbers for each place of a run.
 // They stay one lent list: `marks` promises what it ends as, and `as_chunks_mut` says nothing of that.
 ghost use Rattle.std.specs.Prelude.{◌≡◌, ◌<◌, length, slice_index, slice_set};
+ghost use Rattle.record.specs.Run.{Places};
 ghost use Rattle.table.specs.Counting.{sets};
 ghost use Rattle.table.specs.Scratch.{number_at, sets_at, Measures};
 
@@ -21,7 +22,8 @@ pub(crate) const ENTER: usize = 2;
 
 // The top place of a run; refused if the scratch is too short for the run.
 pub(crate) fn measure<R: Runs>(role: Role, run: &R, scratch: &[u64]) -> Result<usize, Fault>
-    ensures { Measures role (R.Runs.highest run.now) (length scratch.now) result }
+    ensures measures { Measures role (R.Runs.highest run.now) (length scratch.now) result }
+    ensures places { Places (R.Runs.highest run.now) (R.Runs.seen run.now) }
 {
     let top = run.top();
     let needed = PER_PLACE * (top + 1);

@@ -6,7 +6,8 @@ ghost use Rattle.table.specs.Sets.{bit, Bit, Extent};
 pub fn holds(set: u64, state: u8) -> bool
     ensures { result ≡ bit set state }
 {
-    state < 64 && (set >> state) & 1 == 1
+    // the bit first: loops over rules ask of states below 64, and most of those are not in the set
+    (set >> (state % 64)) & 1 == 1 && state < 64
 }
 
 pub(crate) fn with(set: u64, state: u8) -> u64

@@ -1,5 +1,6 @@
 // A run read under a table.
 ghost use Rattle.std.specs.Prelude.{◌≡◌, ◌<◌, length, IfSome, MatchResult};
+ghost use Rattle.record.specs.Run.{Places};
 ghost use Rattle.table.specs.Table.{tab};
 ghost use Rattle.table.specs.Calls.{Admitted, Refused};
 
@@ -18,6 +19,7 @@ pub(crate) struct Walk<'a, C, R: Runs> {
     pub run: &'a R,
     pub top: usize,
     ghost highest: { top ≡ R.Runs.highest run.now },
+    ghost places: { Places (R.Runs.highest run.now) (R.Runs.seen run.now) },
 }
 
 impl<'a, C: Class, R: Runs> Walk<'a, C, R> {

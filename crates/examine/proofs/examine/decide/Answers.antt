@@ -2,7 +2,7 @@ use Rattle.std.proofs.Common.{ℕ, ◌<◌, length, refl, arith, rules}
 use Rattle.std.proofs.lemmas.List.{get_or-replicate}
 use Rattle.table.specs.declared.fault.Role.TheVariants.{Form, Pattern}
 use Rattle.table.specs.Table.{tab}
-use Rattle.examine.specs.Search.{Setting, state}
+use Rattle.examine.specs.Search.{Setting, setting, state}
 use Rattle.examine.proofs.Slots.{most_few}
 use Rattle.table.proofs.Meaning.{states_counted}
 use Rattle.examine.proofs.Verdict.{fine_first, verdict_of, lent_verdict, sound_plain, room_for}
@@ -10,21 +10,25 @@ use Rattle.examine.proofs.examine.decide.Goals as goal
 
 pub search-requires : goal.search-requires
 search-requires g c =
-    let G : Setting _ = record { kinds = g.C.Class.kinds; form = tab c.args.form; pattern = tab c.args.pattern; forms = c.state_count.result; states = c.state_count-2.result } in
-    let a = c.state_count.ensures in
-    let b = c.state_count-2.ensures in
-    let r = room_for (tab c.args.form) (tab c.args.pattern) c.state_count.result c.state_count-2.result _ _ c.requires a b in
+    let p = c.args.product in
+    let G : Setting _ = setting g.C.Class.kinds p in
+    let x = c.requires.tables in
+    let a = c.requires.forms in
+    let b = c.requires.states in
+    let r = room_for (tab p.form) (tab p.pattern) p.forms p.states _ _ x a b in
     let l = c.fill.ensures.len in
     fine_first G _ refl
-    (record { forms_few = (states_counted (tab c.args.form)).within Form c.requires.form _ a; states_few = (states_counted (tab c.args.pattern)).within Pattern c.requires.pattern _ b; form_states = a.below; pattern_states = b.below })
+    (record { forms_few = (states_counted (tab p.form)).within Form x.form _ a; states_few = (states_counted (tab p.pattern)).within Pattern x.pattern _ b; form_states = a.below; pattern_states = b.below })
     r.0 (omega arith) (λ i h. let lt : i < length c.args.helper.now = omega arith in rw (c.fill.ensures.after (λ y x. x), get_or-replicate {A = ℕ} _ i 0 0 lt))
 
 pub returns : goal.returns
 returns g c =
-    let G : Setting _ = record { kinds = g.C.Class.kinds; form = tab c.args.form; pattern = tab c.args.pattern; forms = c.state_count.result; states = c.state_count-2.result } in
-    let h = (states_counted (tab c.args.form)).within Form c.requires.form c.state_count.result c.state_count.ensures in
-    let k = (states_counted (tab c.args.pattern)).within Pattern c.requires.pattern c.state_count-2.result c.state_count-2.ensures in
+    let p = c.args.product in
+    let G : Setting _ = setting g.C.Class.kinds p in
+    let x = c.requires.tables in
+    let h = (states_counted (tab p.form)).within Form x.form p.forms c.requires.forms in
+    let k = (states_counted (tab p.pattern)).within Pattern x.pattern p.states c.requires.states in
     let f = most_few _ _ h k in
-    let v = verdict_of G _ (state c.search.new.draft) c.search.result (sound_plain (tab c.args.form) c.requires.form) (omega arith) c.search.ensures in
+    let v = verdict_of G _ (state c.search.new.draft) c.search.result (sound_plain (tab p.form) x.form) (omega arith) c.search.ensures in
     let n = v.0.0 in
     lent_verdict G c.search.new.draft.lines.now _ c.search.result v.1 (search rules)

@@ -13,7 +13,7 @@ use Rattle.table.proofs.fits.fits.Goals.{else-loop-place-test, then-loop-place-t
 pub loop-place-preserved : goal.loop-place-preserved
 loop-place-preserved g c =
     let w = c.in_ok-walk.walk in
-    fitted_more g.C.Class.kinds (tab w.checked.table) (g.R.Runs.seen w.run.now) (g.met.R.Runs.places w.run.now).lower c.loop-place.scratch _ c.loop-place.place
+    fitted_more g.C.Class.kinds (tab w.checked.table) (g.R.Runs.seen w.run.now) w.places.lower c.loop-place.scratch _ c.loop-place.place
     c.fitting-found.result (omega (arith, c.in_ok-walk.ensures.2.room)) c.set_number.ensures c.loop-place.invariant c.fitting-found.ensures
 
 pub returns : goal.returns
@@ -29,7 +29,7 @@ returns g c =
           subst (λ z. Fitted K T seen z (w.top + 1)) (sym v.scratch-is) (λ p h. c.loop-place.invariant p (omega arith))
       | then-loop-place-test+else-place-place-end v ↦
           subst (λ z. Fitted K T seen z (w.top + 1)) (sym v.scratch-is)
-          (λ p h. fitted_more K T seen (g.met.R.Runs.places w.run.now).lower c.loop-place.scratch _ c.loop-place.place v.fitting-found.result
+          (λ p h. fitted_more K T seen w.places.lower c.loop-place.scratch _ c.loop-place.place v.fitting-found.result
           (omega (arith, c.in_ok-walk.ensures.2.room)) v.set_number.ensures c.loop-place.invariant v.fitting-found.ensures p (omega arith))
     ] in
     let x : ExactSome K T (run_at seen w.top) (bit m) = subst (λ z. ExactSome K T (run_at seen w.top) (bit z)) (sym c.number.ensures) (fitted w.top (omega arith)) in

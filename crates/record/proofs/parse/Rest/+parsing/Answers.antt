@@ -1,5 +1,4 @@
 use Rattle.std.proofs.Common.{arith}
-use Rattle.std.proofs.lemmas.Result.{MatchResult-weaker}
 use Rattle.record.proofs.Parsing.{run_none, faulty, ready_inside, node_parsed, ready_after, run_more}
 use Rattle.record.proofs.parse.Rest.+parsing.Goals as goal
 
@@ -20,19 +19,13 @@ parse_node-returns-in-Err t c = faulty c.requires.ready c.requires.at_lt_end c.i
 pub parse_node-returns-in_ok-count-in-Ok : goal.parse_node-returns-in_ok-count-in-Ok
 parse_node-returns-in_ok-count-in-Ok t c = node_parsed c.in-Ok.ensures c.in_ok-count-in-Ok.ensures
 
-pub parse_run-returns-then-self : goal.parse_run-returns-then-self
-parse_run-returns-then-self t c = run_none c.requires c.if-self.true
-
-pub parse_run-parse_run-requires : goal.parse_run-parse_run-requires
-parse_run-parse_run-requires t c =
+pub parse_run-loop-rest-preserved : goal.parse_run-loop-rest-preserved
+parse_run-loop-rest-preserved t c =
+    let i = c.loop-rest.invariant in
+    let u = i.up in
     let w = c.in_ok-passed.ensures in
-    let r = ready_after c.requires c.if-self.false w in
     let n = w.next_is in
-    let s = w.sound.size_fits in
-    let l = c.if-self.false in
-    let m = c.decreases in
-    (omega arith, r)
+    record { same = i.same; end = i.end; up = omega arith; ready = ready_after i.ready c.loop-rest-test.true w; whole = λ m v. i.whole m (run_more i.ready w v) }
 
 pub parse_run-returns : goal.parse_run-returns
-parse_run-returns t c =
-    MatchResult-weaker c.parse_run.result c.parse_run.ensures (λ n v. run_more c.requires c.in_ok-passed.ensures v) (λ e f. f)
+parse_run-returns t c = let i = c.loop-rest.invariant in i.whole c.loop-rest.rest.before (run_none i.ready c.loop-rest-test.false)

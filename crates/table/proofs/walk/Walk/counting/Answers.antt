@@ -12,7 +12,7 @@ returns-in-None g c =
     let K = g.C.Class.kinds in
     let T = tab c.args.self.now.checked.table in
     let i = pairset 0 0 in
-    exact_none K T (g.R.Runs.seen c.args.self.now.run.now) (g.met.R.Runs.places c.args.self.now.run.now).lower c.args.place i i (sets c.settle.result) (sym c.look.ensures.seen ∙ c.in-None.is)
+    exact_none K T (g.R.Runs.seen c.args.self.now.run.now) c.args.self.now.places.lower c.args.place i i (sets c.settle.result) (sym c.look.ensures.seen ∙ c.in-None.is)
     (c.settle.ensures None i i (λ h. end_base K T h i i (pairset c.args.self.now.checked.table.finals 0) (λ q. refl) no_bit))
 
 pub returns-in-Some : goal.returns-in-Some
@@ -21,7 +21,7 @@ returns-in-Some g c =
     let T = tab c.args.self.now.checked.table in
     let i = sets c.counted_at-inside.result in
     let a = sets c.counted_at-after.result in
-    exact_some K T (g.R.Runs.seen c.args.self.now.run.now) (g.met.R.Runs.places c.args.self.now.run.now).lower c.args.place c.in-Some.node i a (sets c.settle-in-Some.result) c.args.scratch.now
+    exact_some K T (g.R.Runs.seen c.args.self.now.run.now) c.args.self.now.places.lower c.args.place c.in-Some.node i a (sets c.settle-in-Some.result) c.args.scratch.now
     (sym c.look.ensures.seen ∙ c.in-Some.is) c.requires.filled
     (sym c.counted_at-inside.ensures)
     (sym c.counted_at-after.ensures)

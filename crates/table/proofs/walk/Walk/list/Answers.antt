@@ -14,7 +14,7 @@ loop-place-init g c =
       omega arith,
       λ spans.
           subst (LitAbove K T seen top top) (sym c.set_number.ensures)
-          (lit_none K T seen (g.met.R.Runs.places c.args.self.now.run.now).lower top c.args.scratch.now (omega (arith, c.requires.room)) c.requires.filled),
+          (lit_none K T seen c.args.self.now.places.lower top c.args.scratch.now (omega (arith, c.requires.room)) c.requires.filled),
     )
 
 pub loop-place-preserved : goal.loop-place-preserved
@@ -28,8 +28,8 @@ loop-place-preserved g c =
     let room : number_at top 2 < length c.loop-place.scratch = omega (arith, c.requires.room, c.set_number.auto.scratch, c.loop-place.auto.scratch) in (
       omega arith,
       λ spans.
-          let n = spans_seen seen (g.met.R.Runs.places c.args.self.now.run.now).lower spans p c.loop-place-test.true (omega arith) in
-          lit_more K T seen (g.met.R.Runs.places c.args.self.now.run.now).lower top p n.0 c.loop-place.scratch c.list_place.new.scratch spans c.loop-place-test.true low n.1 room
+          let n = spans_seen seen c.args.self.now.places.lower spans p c.loop-place-test.true (omega arith) in
+          lit_more K T seen c.args.self.now.places.lower top p n.0 c.loop-place.scratch c.list_place.new.scratch spans c.loop-place-test.true low n.1 room
           (c.list_place.ensures n.0 n.1) (c.loop-place.invariant.1 spans),
     )
 
@@ -40,5 +40,5 @@ returns g c spans =
     let seen = g.R.Runs.seen c.args.self.now.run.now in
     let top = c.args.self.now.top in
     let z : c.loop-place.place ≡ 0 = omega arith in
-    lit_all K T seen (g.met.R.Runs.places c.args.self.now.run.now).lower top c.loop-place.scratch spans
+    lit_all K T seen c.args.self.now.places.lower top c.loop-place.scratch spans
     (subst (λ p. LitAbove K T seen top p c.loop-place.scratch) z (c.loop-place.invariant.1 spans))
