@@ -5,5 +5,6 @@ pub mod Claims
 pub mod Emptying
 pub mod Joining
 pub mod Searching
+pub mod Looks
 pub mod Shown
 pub mod Verdict

@@ -25,7 +25,7 @@ use Rattle.examine.specs.Search.{Setting, State, Went, slot, most, is_apart, Sho
 use Rattle.examine.specs.Examine.{Needs, Examinable, run_of, Shown}
 use Rattle.examine.proofs.Complete.{together as together_known, apart as apart_known}
 use Rattle.examine.proofs.Spelling.{spells_read}
-use Rattle.examine.specs.Places.{shown_lower}
+use Rattle.examine.proofs.Looks.{shown_lower}
 use Rattle.examine.proofs.Shown.{shown_at, lower_some}
 use Rattle.examine.proofs.Slots.{slot_low}
 

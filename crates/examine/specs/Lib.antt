@@ -1,7 +1,6 @@
 pub mod Facts
 pub mod Lines
 pub mod Sheet
-pub mod Places
 pub mod Examine
 pub mod Search
 pub mod Turns

@@ -8,7 +8,7 @@ use Rattle.record.specs.Index.{erase, span, place, entries, seen, Side, inside, 
 use Rattle.record.proofs.Injective.{node_length}
 use Rattle.record.proofs.Places.{run_some}
 use Rattle.record.proofs.Nth.{nth_left, nth_right, nth_split}
-use Rattle.record.specs.Places.{seen_lower}
+use Rattle.record.proofs.Looks.{seen_lower}
 use Rattle.record.proofs.Seen.{seen_shown}
 
 -- a node's own entry

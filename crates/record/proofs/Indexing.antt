@@ -10,7 +10,7 @@ use Rattle.record.specs.Run.{run_at, Spans}
 use Rattle.record.specs.Index.{span, place, entries, seen, lowered, shown as shown_up_to, IndexedAs, Side, named, Tells, IndexHolds}
 use Rattle.record.proofs.Numbers.{length_le}
 use Rattle.record.proofs.Slices.{Cut, cut, between_all}
-use Rattle.record.specs.Places.{seen_lower}
+use Rattle.record.proofs.Looks.{seen_lower}
 use Rattle.record.proofs.Seen.{seen_shown, shown}
 use Rattle.record.proofs.Entries.{own, entries_length, Stands, stands, place_cases, spells, spans, Has, has, lies, falls, once}
 

@@ -9,6 +9,7 @@ pub mod Total
 pub mod Verdict
 pub mod Parsing
 pub mod Places
+pub mod Looks
 pub mod Nth
 pub mod Seen
 pub mod Entries

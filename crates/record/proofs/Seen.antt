@@ -7,7 +7,7 @@ use Rattle.record.specs.declared.run.Node.{Node}
 use Rattle.record.specs.declared.index.Entry.{Entry}
 use Rattle.record.specs.Run.{if_lower}
 use Rattle.record.specs.Index.{lower_only, seen}
-use Rattle.record.specs.Places.{left_is_lower}
+use Rattle.record.proofs.Looks.{left_is_lower}
 
 pub seen_shown : (list : List Entry) (k : ℕ) (e : Entry) → slice_get list k ≡ Some e → e.node.inside ≤ k → e.node.after ≤ k → seen list (suc k) ≡ Some e.node
 seen_shown list k e h i a =

@@ -5,7 +5,6 @@ pub mod Nodes
 pub mod Record
 pub mod Run
 pub mod Index
-pub mod Places
 pub mod Text
 pub mod Parse
 pub mod Fill

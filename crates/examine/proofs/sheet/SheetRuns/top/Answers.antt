@@ -1,5 +1,5 @@
 use Rattle.std.proofs.Common.{rules}
-use Rattle.examine.specs.Places.{shown_places}
+use Rattle.examine.proofs.Looks.{shown_places}
 use Rattle.examine.proofs.sheet.SheetRuns.top.Goals as goal
 
 pub returns : goal.returns

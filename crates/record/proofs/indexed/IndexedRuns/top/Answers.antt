@@ -1,5 +1,5 @@
 use Rattle.std.proofs.Common.{rules}
-use Rattle.record.specs.Places.{shown_places}
+use Rattle.record.proofs.Looks.{shown_places}
 use Rattle.record.proofs.indexed.IndexedRuns.top.Goals as goal
 
 pub returns : goal.returns

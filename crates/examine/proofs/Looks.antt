@@ -4,7 +4,7 @@ use Rattle.std.proofs.Common.{arith}
 use Rattle.std.proofs.lemmas.Bool.Decides.{nat_tests}
 use Rattle.record.specs.declared.run.Node.{Node}
 use Rattle.record.specs.Run.{Lower, Places}
-use Rattle.record.specs.Places.{left_is_lower}
+use Rattle.record.proofs.Looks.{left_is_lower}
 use Rattle.examine.specs.declared.line.Line.{Line}
 use Rattle.examine.specs.Lines.{line_at}
 use Rattle.examine.specs.Sheet.{lower_only, lowered, shown}
