@@ -1,15 +1,18 @@
 // What one rule does, by sets of states.
-ghost use Rattle.std.specs.Prelude.{◌≡◌};
+ghost use Rattle.std.specs.Prelude.{◌≡◌, ℕ, ◌<◌};
+ghost use Rattle.table.specs.Limits.{pattern_states};
+ghost use Rattle.table.specs.Check.{Names};
 ghost use Rattle.table.specs.Sets.{bit};
 ghost use Rattle.table.specs.Counting.{takes_step, touches_step, slips_step};
 
 use crate::class::Class;
 use crate::rule::{Rule, Step};
-use crate::states::holds;
+use crate::states::{among, holds};
 
 impl<C: Class> Rule<C> {
     // Whether it takes a node of this kind, with its inside from a state of `inside` and what follows from one of `after`.
     pub(crate) fn takes(&self, kind: u16, inside: u64, after: u64) -> bool
+        requires { (q : ℕ) → Names self.now q → q < pattern_states }
         ensures { result ≡ takes_step C.Class.kinds kind (bit inside) (bit after) self.now.to self.now.step }
     {
         match self.step {
@@ -18,7 +21,7 @@ impl<C: Class> Rule<C> {
                 class,
                 inside: state,
                 ..
-            } => holds(inside, state) && holds(after, self.to) && class.has(kind),
+            } => among(inside, state) && among(after, self.to) && class.has(kind),
         }
     }
 

@@ -6,6 +6,9 @@ use Rattle.table.proofs.Firsts.{Entering, Telling, entering_passed, entering_tak
 use Rattle.table.proofs.checked.Checked.node_base.Goals as goal
 use Rattle.table.proofs.checked.Checked.node_base.Goals.{then-takes, else-takes}
 
+pub takes-requires : goal.takes-requires
+takes-requires g c = c.args.self.now.bounded c.loop-rule.rule-index c.rule-item.result (c.loop-rule-test.true, sym c.rule-item.is)
+
 pub gain-base-requires : goal.gain-base-requires
 gain-base-requires g c = c.args.self.now.bounded c.loop-rule.rule-index c.rule-item.result (c.loop-rule-test.true, sym c.rule-item.is) c.rule-item.result.from (inl refl)
 

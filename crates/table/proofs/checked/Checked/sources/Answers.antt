@@ -6,6 +6,9 @@ use Rattle.table.proofs.Leading.{LeadsBy, leads_taken, leads_passed}
 use Rattle.table.proofs.checked.Checked.sources.Goals as goal
 use Rattle.table.proofs.checked.Checked.sources.Goals.{then-takes, else-takes}
 
+pub takes-requires : goal.takes-requires
+takes-requires g c = c.args.self.now.bounded c.loop-rule.rule-index c.rule-item.result (c.loop-rule-test.true, sym c.rule-item.is)
+
 pub with-found-requires : goal.with-found-requires
 with-found-requires g c = c.args.self.now.bounded c.loop-rule.rule-index c.rule-item.result (c.loop-rule-test.true, sym c.rule-item.is) c.rule-item.result.from (inl refl)
 

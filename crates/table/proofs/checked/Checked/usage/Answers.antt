@@ -9,6 +9,9 @@ use Rattle.table.proofs.Using.{InsideBy, AfterBy, MarkedBy, inside_taken, after_
 use Rattle.table.proofs.checked.Checked.usage.Goals as goal
 use Rattle.table.proofs.checked.Checked.usage.Goals.{then-takes-holds, else-takes-holds}
 
+pub takes-requires : goal.takes-requires
+takes-requires g c = c.args.self.now.bounded c.loop-rule.rule-index c.rule-item.result (c.loop-rule-test.true, sym c.rule-item.is)
+
 pub add-all-requires : goal.add-all-requires
 add-all-requires g c = c.args.self.now.bounded c.loop-rule.rule-index c.rule-item.result (c.loop-rule-test.true, sym c.rule-item.is)
 
