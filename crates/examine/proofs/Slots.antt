@@ -22,6 +22,17 @@ most_few S Q a b =
     let m : 3 * S * Q ≤ 96 * 64 = mul-le-mul s b in
     mul-le-mul m b
 
+-- the parts of a number are small
+pub form_part : {C : Type 0} (G : Setting C) (x : Fact) → Low G x → G.forms ≤ 32 → code x.sort * G.forms + x.form < 96
+form_part G x l a = let h = digits_lt (code_low x.sort) l.0 in omega arith
+
+pub first_part : {C : Type 0} (G : Setting C) (x : Fact) → Low G x → G.forms ≤ 32 → G.states ≤ 64 → (code x.sort * G.forms + x.form) * G.states + x.first < 6144
+first_part G x l a b =
+    let h = digits_lt (digits_lt (code_low x.sort) l.0) l.1 in
+    let s : 3 * G.forms ≤ 96 = omega arith in
+    let m : 3 * G.forms * G.states ≤ 96 * 64 = mul-le-mul s b in
+    omega arith
+
 code_same : (x y : Sort) → code x ≡ code y → x ≡ y
 code_same Together Together e = refl
 code_same Together Poised e = absurd (omega arith)

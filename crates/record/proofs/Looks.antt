@@ -1,9 +1,9 @@
 -- Why the places of an index list up to a top are those of a run.
-use Rattle.std.specs.Prelude.{◌≡◌, ℕ, zero, suc, ◌<◌, ◌≤◌, List, length, take, Some, None, Option}
+use Rattle.std.specs.Prelude.{◌≡◌, ℕ, zero, suc, ◌-◌, ◌<◌, ◌≤◌, List, length, get_or, take, Some, None, Option}
 use Rattle.std.specs.List.{slice_get}
-use Rattle.std.proofs.Common.{refl, ap, arith}
+use Rattle.std.proofs.Common.{sym, refl, ap, ◌∙◌, arith, get_or-take}
 use Rattle.std.proofs.lemmas.Bool.Decides.{nat_tests}
-use Rattle.std.proofs.lemmas.Option.{slice_get_past}
+use Rattle.std.proofs.lemmas.Option.{slice_get-get_or, slice_get_past}
 use Rattle.std.proofs.lemmas.List.{length-take-le}
 use Rattle.record.specs.declared.run.Node.{Node}
 use Rattle.record.specs.declared.index.Entry.{Entry}
@@ -27,6 +27,16 @@ nothing_above list top zero h = refl
 nothing_above list top (suc k) h =
     let l : length (take (lowered list top) list) ≤ k = rw (length-take-le (lowered list top) list (omega arith)) (omega arith) in
     ap (lower_only (suc k)) (slice_get_past (take (lowered list top) list) k l)
+
+-- a place up to the top shows its entry
+pub shown_at : (list : List Entry) (top p : ℕ) (d : Entry) → (p ≡ 0 → ⊥) → p ≤ lowered list top → lower_only p (Some (get_or list (p - 1) d)) ≡ shown list top p
+shown_at list top zero d n h = absurd (n refl)
+shown_at list top (suc k) d n h =
+    let t : ℕ = lowered list top in
+    let e : suc k - 1 ≡ k = omega arith in
+    let len : length (take t list) ≡ t = length-take-le t list (omega arith) in
+    let lt : k < t = omega arith in
+    sym (ap (lower_only (suc k)) (slice_get-get_or (take t list) k d (omega arith) ∙ ap Some (get_or-take t list k d lt ∙ ap (λ j. get_or list j d) (sym e))))
 
 pub shown_places : (list : List Entry) (top : ℕ) → Places (lowered list top) (shown list top)
 shown_places list top = record { few = omega arith; lower = seen_lower (take (lowered list top) list); ends = nothing_above list top }

@@ -1,7 +1,7 @@
 -- The bits of a number: after an or, an and and a shift, the highest, the lowest, and how many.
-use Rattle.std.proofs.Common.{◌≡◌, ℕ, zero, suc, ◌+◌, ◌*◌, ◌/◌, ◌%◌, ◌^◌, ◌<◌, ◌≤◌, max, min, Bool, true, false, ◌&&◌, ◌||◌, eqb, w64, sym, refl, ap, ◌∙◌, inl, inr, pow-suc, arith}
+use Rattle.std.proofs.Common.{◌≡◌, ℕ, zero, suc, ◌+◌, ◌*◌, ◌/◌, ◌%◌, ◌^◌, ◌<◌, ◌≤◌, max, min, Bool, true, false, ◌&&◌, ◌||◌, eqb, w64, sym, refl, ap, ◌∙◌, inl, inr, pow-suc, div-one, arith}
 use lib.Bits.{bit_and, bit_or}
-use lib.Count.{leading_top, ones, ones_step}
+use lib.Count.{count_trailing_zeros, under, leading_top, ones, ones_step}
 use Rattle.std.specs.Int.{bit_at, trailing_zeros}
 use Rattle.std.proofs.lemmas.Nat.{zero_from_ones, ones_le_self, pow_pos, one_shl, le-div, div_below}
 use Rattle.std.proofs.lemmas.Nat.Bits.{shr_and_one, bit_at_or, bit_at_and, bit_at-lt, bit_at-pow_same, bit_at-pow_other, bit_at_above, bit_at-suc, bit_at_lowest, bit_at-trailing_zeros}
@@ -89,6 +89,25 @@ bit_of_and a b j = ap (λ z. eqb z 1) (bit_at_and a b j) ∙ min_one (bit_at a j
 -- the bits above the lowest are those of the half
 bit_half : (m q : ℕ) → bit m (suc q) ≡ bit (m / 2) q
 bit_half m q = ap (λ z. eqb z 1) (bit_at-suc m q)
+
+-- the lowest of k bits is at the number of trailing zeros
+pub record Lowest (k m : ℕ) : Type 0 where
+  pub none_below : (q : ℕ) → q < count_trailing_zeros k m → Bit m q → ⊥
+  pub there : count_trailing_zeros k m < k → Bit m (count_trailing_zeros k m)
+
+lowest_step : (k m d : ℕ) → d ≡ m % 2 → Lowest k (m / 2) → ((q : ℕ) → q < under d (count_trailing_zeros k (m / 2)) → Bit m q → ⊥) × (under d (count_trailing_zeros k (m / 2)) < suc k → Bit m (under d (count_trailing_zeros k (m / 2))))
+lowest_step k m zero e l = (none, λ h. bit_half m (count_trailing_zeros k (m / 2)) ∙ l.there (omega arith))
+  where
+    none : (q : ℕ) → q < suc (count_trailing_zeros k (m / 2)) → Bit m q → ⊥
+    none zero h b = let z : ◌≡◌ {A = ℕ} 0 1 = e ∙ eqb-true (m % 2) 1 (ap (λ z. eqb (z % 2) 1) (sym (div-one m)) ∙ b) in omega arith
+    none (suc q) h b = l.none_below q (omega arith) (sym (bit_half m q) ∙ b)
+lowest_step k m (suc d) e l =
+    (λ q h b. omega arith, λ h. ap (λ z. eqb (z % 2) 1) (div-one m) ∙ eq-eqb (m % 2) 1 (omega arith))
+
+pub lowest : (k m : ℕ) → Lowest k m
+unfolding count_trailing_zeros
+lowest zero m = record { none_below = λ q h b. omega arith; there = λ h. absurd (omega arith) }
+lowest (suc k) m = let s = lowest_step k m (m % 2) refl (lowest k (m / 2)) in record { none_below = s.0; there = s.1 }
 
 -- the lowest bit of a number that is not 0 is at its trailing zeros
 pub least_bit : (m : ℕ) → (m ≡ 0 → ⊥) → m < 2 ^ 64 → (Bit m (trailing_zeros w64 m)) × ((q : ℕ) → Bit m q → trailing_zeros w64 m ≤ q)

@@ -9,7 +9,7 @@ pub fn holds(set: u64, state: u8) -> bool
     among(set, state % 64) && state < 64
 }
 
-// Whether a state below 64 is in the set. The loops over rules ask so often that a test of the state would be half of their time.
+// Whether a state below 64 is in the set. `takes` asks this for each rule at each node: a test of the state there is half of the time of `fits`.
 pub(crate) fn among(set: u64, state: u8) -> bool
     requires { state < 64 }
     ensures { result ≡ bit set state }
