@@ -40,6 +40,9 @@ fn decide<C: Class>(
     ensures { MatchResult result (λ _. Twofold C.Class.kinds (tab product.entry.form) (tab product.entry.pattern) → ⊥)
         (λ d. Twofold C.Class.kinds (tab product.entry.form) (tab product.entry.pattern) × Shown C.Class.kinds (tab product.entry.form) (tab product.entry.pattern) sheet.new d.top) }
 {
+    // a number for each fact is cleared; the one more stays as it was lent
+    let facts = helper.len() - 1;
+    let helper = &mut helper[..facts];
     helper.fill(0);
     let mut draft = Draft {
         lines: sheet,

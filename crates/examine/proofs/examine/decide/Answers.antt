@@ -1,5 +1,5 @@
-use Rattle.std.proofs.Common.{ℕ, ◌<◌, length, refl, arith, rules}
-use Rattle.std.proofs.lemmas.List.{get_or-replicate}
+use Rattle.std.proofs.Common.{◌≡◌, ℕ, ◌-◌, ◌<◌, ◌≤◌, length, take, refl, arith, rules}
+use Rattle.std.proofs.lemmas.List.{get_or-replicate, length-take-le}
 use Rattle.table.specs.declared.fault.Role.TheVariants.{Form, Pattern}
 use Rattle.table.specs.Table.{tab}
 use Rattle.examine.specs.Search.{Setting, setting, state}
@@ -16,10 +16,13 @@ search-requires g c =
     let a = c.requires.forms in
     let b = c.requires.states in
     let r = room_for (tab p.form) (tab p.pattern) p.forms p.states _ _ x a b in
+    let list = c.args.helper.now in
+    let one : 1 ≤ length list = omega arith in
+    let len : length (take (length list - 1) list) ≡ length list - 1 = length-take-le (length list - 1) list (omega arith) in
     let l = c.fill.ensures.len in
     fine_first G _ refl
     (record { forms_few = (states_counted (tab p.form)).within Form x.form _ a; states_few = (states_counted (tab p.pattern)).within Pattern x.pattern _ b; form_states = a.below; pattern_states = b.below })
-    r.0 (omega arith) (λ i h. let lt : i < length c.args.helper.now = omega arith in rw (c.fill.ensures.after (λ y x. x), get_or-replicate {A = ℕ} _ i 0 0 lt))
+    r.0 (omega arith) (λ i h. let lt : i < length (take (length list - 1) list) = omega arith in rw (c.fill.ensures.after (λ y x. x), get_or-replicate {A = ℕ} _ i 0 0 lt))
 
 pub returns : goal.returns
 returns g c =
