@@ -28,7 +28,7 @@ nothing_above list top (suc k) h =
     let l : length (take (lowered list top) list) ≤ k = rw (length-take-le (lowered list top) list (omega arith)) (omega arith) in
     ap (lower_only (suc k)) (slice_get_past (take (lowered list top) list) k l)
 
--- a place up to the top shows its entry
+-- a place up to the top shows its entry's node, if that names lower places
 pub shown_at : (list : List Entry) (top p : ℕ) (d : Entry) → (p ≡ 0 → ⊥) → p ≤ lowered list top → lower_only p (Some (get_or list (p - 1) d)) ≡ shown list top p
 shown_at list top zero d n h = absurd (n refl)
 shown_at list top (suc k) d n h =

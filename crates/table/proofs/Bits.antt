@@ -1,10 +1,10 @@
 -- The bits of a number: after an or, an and and a shift, the highest, the lowest, and how many.
-use Rattle.std.proofs.Common.{◌≡◌, ℕ, zero, suc, ◌+◌, ◌*◌, ◌/◌, ◌%◌, ◌^◌, ◌<◌, ◌≤◌, max, min, Bool, true, false, ◌&&◌, ◌||◌, eqb, w64, sym, refl, ap, ◌∙◌, inl, inr, pow-suc, div-one, arith}
+use Rattle.std.proofs.Common.{◌≡◌, ℕ, zero, suc, ◌+◌, ◌*◌, ◌/◌, ◌%◌, ◌^◌, ◌<◌, ◌≤◌, max, min, Bool, true, false, ◌&&◌, ◌||◌, eqb, sym, refl, ap, ◌∙◌, inl, inr, pow-suc, div-one, arith}
 use lib.Bits.{bit_and, bit_or}
 use lib.Count.{count_trailing_zeros, under, leading_top, ones, ones_step}
-use Rattle.std.specs.Int.{bit_at, trailing_zeros}
+use Rattle.std.specs.Int.{bit_at}
 use Rattle.std.proofs.lemmas.Nat.{zero_from_ones, ones_le_self, pow_pos, one_shl, le-div, div_below}
-use Rattle.std.proofs.lemmas.Nat.Bits.{shr_and_one, bit_at_or, bit_at_and, bit_at-lt, bit_at-pow_same, bit_at-pow_other, bit_at_above, bit_at-suc, bit_at_lowest, bit_at-trailing_zeros}
+use Rattle.std.proofs.lemmas.Nat.Bits.{shr_and_one, bit_at_or, bit_at_and, bit_at-lt, bit_at-pow_same, bit_at-pow_other, bit_at_above, bit_at-suc, bit_at_lowest}
 use Rattle.std.proofs.lemmas.Bool.{cases_eq, eq-eqb, ne_eqb, eqb-true, cases_lt, true≢false}
 use Rattle.table.specs.Sets.{bit, Bit, Extent}
 
@@ -108,14 +108,6 @@ pub lowest : (k m : ℕ) → Lowest k m
 unfolding count_trailing_zeros
 lowest zero m = record { none_below = λ q h b. omega arith; there = λ h. absurd (omega arith) }
 lowest (suc k) m = let s = lowest_step k m (m % 2) refl (lowest k (m / 2)) in record { none_below = s.0; there = s.1 }
-
--- the lowest bit of a number that is not 0 is at its trailing zeros
-pub least_bit : (m : ℕ) → (m ≡ 0 → ⊥) → m < 2 ^ 64 → (Bit m (trailing_zeros w64 m)) × ((q : ℕ) → Bit m q → trailing_zeros w64 m ≤ q)
-least_bit m n h =
-    let t = bit_at-trailing_zeros w64 m (omega arith) h in (
-      ap (λ z. eqb z 1) t.1,
-      λ q b. elim (cases_lt q (trailing_zeros w64 m)) [ inl l ↦ absurd (true≢false (sym b ∙ ap (λ z. eqb z 1) (t.2 q l))) | inr l ↦ l ],
-    )
 
 -- a number that is not 0 has a bit
 pub some_bit : (m : ℕ) → (m ≡ 0 → ⊥) → (q : ℕ) × Bit m q

@@ -9,7 +9,8 @@ pub fn holds(set: u64, state: u8) -> bool
     among(set, state % 64) && state < 64
 }
 
-// Whether a state below 64 is in the set. `takes` asks this for each rule at each node: a test of the state there is half of the time of `fits`.
+// Whether a state below 64 is in the set. `takes` asks this for each rule at each node: with a test of the state there `fits` takes a third
+// more instructions.
 pub(crate) fn among(set: u64, state: u8) -> bool
     requires { state < 64 }
     ensures { result ≡ bit set state }

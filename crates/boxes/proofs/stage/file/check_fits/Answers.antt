@@ -7,6 +7,7 @@ use Rattle.boxes.specs.Stage.{Checked}
 use Rattle.boxes.proofs.Filing.{fits_checked}
 use Rattle.boxes.proofs.stage.file.check_fits.Goals as goal
 
+-- by `subst`: so another answer in the code is refused where the two answers differ
 pub returns : goal.returns
 returns g c =
     fits_checked g.C.Class.kinds _ c.requires.indexed _ _ c.ensure.result c.requires.form c.requires.room c.fits.ensures
